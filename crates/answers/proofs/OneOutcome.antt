@@ -1,0 +1,53 @@
+-- An outcome allows one answer and one content of the output only. Assumes nothing.
+use Prim.Native.Nat.{ℕ, _-_}
+use mathlib.Core.Path.{_≡_, refl, sym, ap, _∙_}
+use mathlib.Core.List.{List, [], _∷_}
+use lib.ListN.{getD}
+use native.Mathlib.Omega.{arith}
+use Rattle.answers.specs.declared.Refusal.{Refusal}
+use Rattle.answers.specs.declared.Refusal.the-variants.{Layout, Components, Length, Room, Record, Thin, File}
+use Rattle.answers.specs.declared.Answer.{Answer}
+use Rattle.answers.specs.declared.Answer.the-variants.{Wrote, Refused}
+use Rattle.answers.specs.declared.Told.{Told}
+use Rattle.answers.specs.Told.{numberOf, told}
+use Rattle.answers.specs.Outcome.{Outcome, Done}
+
+-- the refusal that a number stands for
+refusalOf : ℕ → Refusal
+refusalOf n = getD (Layout ∷ Components ∷ Length ∷ Room ∷ Record ∷ Thin ∷ []) (n - 1) File
+
+back : (r : Refusal) → refusalOf (numberOf r) ≡ r
+unfolding refusalOf
+back Layout = refl
+back Components = refl
+back Length = refl
+back Room = refl
+back Record = refl
+back Thin = refl
+back File = refl
+
+-- no refusal has the number 0, which stands for an accepted call
+not-zero : (r : Refusal) → numberOf r ≡ 0 → ⊥
+not-zero Layout e = omega arith
+not-zero Components e = omega arith
+not-zero Length e = omega arith
+not-zero Room e = omega arith
+not-zero Record e = omega arith
+not-zero Thin e = omega arith
+not-zero File e = omega arith
+
+-- no two refusals share a number
+pub one-refusal : (r r′ : Refusal) → numberOf r ≡ numberOf r′ → r ≡ r′
+one-refusal r r′ e = sym (back r) ∙ ap refusalOf e ∙ back r′
+
+-- no two answers share their numbers
+pub one-answer : (a a′ : Answer) → told a ≡ told a′ → a ≡ a′
+one-answer (Wrote n) (Wrote m) e = ap Wrote (ap (λ (t : Told). t .count) e)
+one-answer (Wrote n) (Refused r) e = absurd (not-zero r (sym (ap (λ (t : Told). t .refused) e)))
+one-answer (Refused r) (Wrote n) e = absurd (not-zero r (ap (λ (t : Told). t .refused) e))
+one-answer (Refused r) (Refused r′) e = ap Refused (one-refusal r r′ (ap (λ (t : Told). t .refused) e))
+
+pub one-outcome : {A : Type 0} (o : Outcome A) (entry : List A) (r r′ : Answer) (m m′ : List A) → Done o entry r m → Done o entry r′ m′
+    → (r ≡ r′) × (m ≡ m′)
+one-outcome o entry r r′ m m′ p q =
+    (one-answer r r′ (p .answered ∙ sym (q .answered)), p .held ∙ sym (q .held))

@@ -1,0 +1,53 @@
+// How a call answers: what it wrote, or why it refused.
+ghost use mathlib.Core.Path.{_≡_};
+ghost use Rattle.answers.specs.Told.{numberOf, told};
+
+// The seven refusals of document 01, by name.
+pub enum Refusal {
+    Layout,
+    Components,
+    Length,
+    Room,
+    Record,
+    Thin,
+    File,
+}
+
+// How many triangles, patches, raw numbers or bytes were written; or the refusal.
+pub enum Answer {
+    Wrote(usize),
+    Refused(Refusal),
+}
+
+// An answer as two numbers: a refusal's number or 0, and the count, 0 with a refusal.
+pub struct Told {
+    pub refused: usize,
+    pub count: usize,
+}
+
+// Document 01's number of a refusal.
+pub fn refusal_number(refusal: Refusal) -> usize
+    ensures { λ r. ⌜ r ≡ numberOf refusal ⌝ }
+{
+    match refusal {
+        Refusal::Layout => 1,
+        Refusal::Components => 2,
+        Refusal::Length => 3,
+        Refusal::Room => 4,
+        Refusal::Record => 5,
+        Refusal::Thin => 6,
+        Refusal::File => 7,
+    }
+}
+
+pub fn tell(answer: Answer) -> Told
+    ensures { λ r. ⌜ r ≡ told answer ⌝ }
+{
+    match answer {
+        Answer::Wrote(count) => Told { refused: 0, count },
+        Answer::Refused(refusal) => Told {
+            refused: refusal_number(refusal),
+            count: 0,
+        },
+    }
+}

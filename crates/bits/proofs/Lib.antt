@@ -1,0 +1,4 @@
+pub mod Digits
+pub mod Streams
+pub mod Gathering
+pub mod Answers

@@ -1,0 +1,160 @@
+// The bit reader: numbers of 1 to 32 bits, taken from the high end of each byte, bytes in order.
+// A place is handed in and the next one handed back; the slice is lent for each read.
+ghost use mathlib.Core.Path.{_≡_};
+ghost use Prim.Native.Nat.{_+_, _-_, _*_, _/_, _%_, _^_, _≤_, _<_};
+ghost use lib.ListN.{length};
+ghost use Rattle.bits.specs.Bits.{fieldAt};
+ghost use Rattle.bits.specs.Reading.{readAt, exhaustedAt};
+ghost use Rattle.bits.specs.Gathering.{Gathers};
+
+// A bit position, counted from the first byte's high bit.
+pub struct BitPos(pub usize);
+
+// A byte place, counted from the first byte.
+pub struct BytePlace(pub usize);
+
+// What a read finds: the number and the place after it, or the end.
+pub enum BitRead {
+    Number(u32, BitPos),
+    End,
+}
+
+// The byte that a bit position lies in.
+pub fn byte_of(at: BitPos) -> BytePlace
+    ensures { λ r. ⌜ r .0 ≡ at .0 / 8 ⌝ }
+{
+    let p = at.0;
+    BytePlace(p / 8)
+}
+
+// Whether no byte is left at a place.
+pub fn exhausted(data: &[u8], at: BitPos) -> bool
+    ensures { λ r. ⌜ r ≡ exhaustedAt (now («data» .entry)) (at .0) ⌝ }
+{
+    let place = byte_of(at);
+    let i = place.0;
+    data.len() <= i
+}
+
+// The bits of 1, 2, 3, 4 or 8 bytes from a place, as a number.
+
+fn one_byte(data: &[u8], from: BytePlace) -> u32
+    requires { ⌜ from .0 + 1 ≤ length (now «data») ⌝ }
+    ensures { λ r. ⌜ Gathers (now («data» .entry)) (from .0) 1 r ⌝ }
+{
+    let i = from.0;
+    data[i] as u32
+}
+
+fn two_bytes(data: &[u8], from: BytePlace) -> u32
+    requires { ⌜ from .0 + 2 ≤ length (now «data») ⌝ }
+    ensures { λ r. ⌜ Gathers (now («data» .entry)) (from .0) 2 r ⌝ }
+{
+    let i = from.0;
+    (one_byte(data, from) << 8) | one_byte(data, BytePlace(i + 1))
+}
+
+fn three_bytes(data: &[u8], from: BytePlace) -> u32
+    requires { ⌜ from .0 + 3 ≤ length (now «data») ⌝ }
+    ensures { λ r. ⌜ Gathers (now («data» .entry)) (from .0) 3 r ⌝ }
+{
+    let i = from.0;
+    (two_bytes(data, from) << 8) | one_byte(data, BytePlace(i + 2))
+}
+
+fn four_bytes(data: &[u8], from: BytePlace) -> u32
+    requires { ⌜ from .0 + 4 ≤ length (now «data») ⌝ }
+    ensures { λ r. ⌜ Gathers (now («data» .entry)) (from .0) 4 r ⌝ }
+{
+    let i = from.0;
+    (two_bytes(data, from) << 16) | two_bytes(data, BytePlace(i + 2))
+}
+
+fn eight_bytes(data: &[u8], from: BytePlace) -> u64
+    requires { ⌜ from .0 + 8 ≤ length (now «data») ⌝ }
+    ensures { λ r. ⌜ Gathers (now («data» .entry)) (from .0) 8 r ⌝ }
+{
+    let i = from.0;
+    let high = four_bytes(data, from) as u64;
+    let low = four_bytes(data, BytePlace(i + 4)) as u64;
+    (high << 32) | low
+}
+
+// The bits of up to five bytes from a place, as a number: for the last bytes of the data.
+fn gather(data: &[u8], from: BytePlace, count: usize) -> u64
+    requires { ⌜ (count ≤ 5) × (from .0 + count ≤ length (now «data»)) ⌝ }
+    ensures { λ r. ⌜ Gathers (now («data» .entry)) (from .0) count r ⌝ }
+{
+    let i = from.0;
+    let mut accum: u64 = 0;
+    let mut k: usize = 0;
+    while k < count {
+        accum = (accum << 8) | (data[i + k] as u64);
+        k += 1;
+    }
+    accum
+}
+
+// Of count gathered bytes, the n bits at an offset.
+fn window(accum: u64, count: usize, offset: usize, n: usize) -> u32
+    requires { ⌜ (n ≤ 32) × (count ≤ 8) × (1 ≤ n) × (offset + n ≤ 8 * count) ⌝ }
+    ensures { λ r. ⌜ r ≡ accum / 2 ^ (8 * count - offset - n) % 2 ^ n ⌝ }
+{
+    let shift = count * 8 - offset - n;
+    let mask = (1u64 << n) - 1;
+    ((accum >> shift) & mask) as u32
+}
+
+// The n bits at an offset into the byte at a place, all of which exist: four shortcuts for whole bytes, and the general route.
+fn field(data: &[u8], from: BytePlace, offset: usize, n: usize) -> u32
+    requires { ⌜ (offset < 8) × (1 ≤ n) × (n ≤ 32) × (8 * (from .0) + (offset + n) ≤ 8 * length (now «data»)) ⌝ }
+    ensures { λ r. ⌜ r ≡ fieldAt (now («data» .entry)) (8 * (from .0) + offset) n ⌝ }
+{
+    if offset == 0 {
+        if n == 8 {
+            return one_byte(data, from);
+        }
+        if n == 16 {
+            return two_bytes(data, from);
+        }
+        if n == 24 {
+            return three_bytes(data, from);
+        }
+        if n == 32 {
+            return four_bytes(data, from);
+        }
+    }
+    let i = from.0;
+    if 8 <= data.len() - i {
+        return window(eight_bytes(data, from), 8, offset, n);
+    }
+    let count = (offset + n + 7) / 8;
+    window(gather(data, from, count), count, offset, n)
+}
+
+// Reads n bits at a place: the number and the place after it, or the end. A read of 0 bits gives 0.
+pub fn read(data: &[u8], at: BitPos, n: usize) -> BitRead
+    ensures { λ r. ⌜ r ≡ readAt (now («data» .entry)) (at .0) n ⌝ }
+{
+    if n == 0 {
+        return BitRead::Number(0, at);
+    }
+    if n > 32 {
+        return BitRead::End;
+    }
+    let p = at.0;
+    if p > 0xffff_ffff_ffff_ffff - n {
+        return BitRead::End;
+    }
+    let end = p + n;
+    let place = byte_of(at);
+    let byte = place.0;
+    let offset = p % 8;
+    if data.len() < byte {
+        return BitRead::End;
+    }
+    if data.len() - byte < (offset + n + 7) / 8 {
+        return BitRead::End; // not all bits exist
+    }
+    BitRead::Number(field(data, place, offset, n), BitPos(end))
+}

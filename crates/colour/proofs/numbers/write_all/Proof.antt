@@ -1,0 +1,81 @@
+-- `colour::numbers::write_all` meets its contract: after j turns the first j values stand in `out` from `at`. Assumes nothing.
+use Prim.Native.Nat.{_+_, _-_, _≤_}
+use mathlib.Core.Path.{_≡_, refl}
+use native.Mathlib.Nat.{zero-add}
+use native.Mathlib.Omega.{arith}
+use lib.ListN.{length}
+use lib.Ieee.{nan}
+use Rattle.lists.specs.Lists.{part}
+use Rattle.lists.specs.Writing.{Written}
+use Rattle.lists.proofs.Pieces.{part-all}
+use Rattle.lists.proofs.Writing.{copy-none, copy-more}
+use borrow.Author.Needs.{needs}
+use Rattle.colour.proofs.numbers.write_all.Statement.{statement}
+use Rattle.colour.proofs.numbers.write_all.Tie as tie
+
+abbrev Inv-loop : tie.InvT-loop
+Inv-loop out₀ at values n j₀ out j =
+    (j ≤ n) × (n ≡ length values) × (at + n ≤ length out₀) × (length out ≡ length out₀) × Written out₀ out at (part nan values 0 j) (at + j)
+
+abbrev μ-loop : tie.MeasureT-loop
+μ-loop out₀ at values n j₀ out j = n - j
+
+loop-holds : tie.Need-loop-holds Inv-loop μ-loop
+loop-holds c = (search needs, refl, search needs, refl, copy-none _ _ _ _ _ (omega arith))
+
+mul-out : tie.Need-mul-out Inv-loop μ-loop
+mul-out c = search needs
+
+shared-slice-read-out : tie.Need-shared-slice-read-out Inv-loop μ-loop
+shared-slice-read-out c = search needs
+
+add-out : tie.Need-add-out Inv-loop μ-loop
+add-out c = search needs
+
+mul-out-2 : tie.Need-mul-out-2 Inv-loop μ-loop
+mul-out-2 c = search needs
+
+slice-write-out : tie.Need-slice-write-out Inv-loop μ-loop
+slice-write-out c = search needs
+
+add-j : tie.Need-add-j Inv-loop μ-loop
+add-j c = search needs
+
+loop-less : tie.Need-loop-less Inv-loop μ-loop
+loop-less c = search needs
+
+loop-again : tie.Need-loop-again Inv-loop μ-loop
+loop-again c =
+    let l = c .before .before .loop in
+    (search needs, search needs, search needs, search needs, rw (zero-add (l .j)) at (copy-more nan _ 0 (l .j) (omega arith) (l .inv .4)))
+
+add-result : tie.Need-add-result Inv-loop μ-loop
+add-result c = search needs
+
+same-length : tie.Need-same-length Inv-loop μ-loop
+same-length c = search needs
+
+returns : tie.Need-returns Inv-loop μ-loop
+returns c =
+    let l = c .before .loop in
+    let e : l .j ≡ length (c .before .before .args .values .now) = omega arith in
+    (search needs, rw (e, part-all) at (l .inv .4))
+
+pub write-all-spec : {M : Type 1} → statement M
+write-all-spec =
+    tie.close
+    (tie.spec
+    Inv-loop
+    μ-loop
+    loop-holds
+    mul-out
+    shared-slice-read-out
+    add-out
+    mul-out-2
+    slice-write-out
+    add-j
+    loop-less
+    loop-again
+    add-result
+    same-length
+    returns)

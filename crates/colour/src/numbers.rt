@@ -1,0 +1,61 @@
+// Numbers written to a lent output from an index, where there is room for them. Each function answers the index after them.
+ghost use mathlib.Core.Path.{_≡_};
+ghost use mathlib.Core.List.{[], _∷_};
+ghost use Prim.Native.Nat.{_+_, _≤_};
+ghost use lib.ListN.{length};
+ghost use Rattle.lists.specs.Writing.{Written};
+ghost use Rattle.colour.specs.Colour.{colourNumbers};
+use crate::DeviceColor;
+use crate::Inks;
+
+pub fn write_two(out: &mut [f64], at: usize, a: f64, b: f64) -> usize
+    requires { ⌜ at + 2 ≤ length (now out) ⌝ }
+    ensures { λ p. ⌜ p ≡ at + 2 ⌝ }
+    ensures { λ p. ⌜ Written (now (out .entry)) (now (out .exit)) at (a ∷ b ∷ []) p ⌝ }
+{
+    out[at] = a;
+    out[at + 1] = b;
+    at + 2
+}
+
+pub fn write_four(out: &mut [f64], at: usize, a: f64, b: f64, c: f64, d: f64) -> usize
+    requires { ⌜ at + 4 ≤ length (now out) ⌝ }
+    ensures { λ p. ⌜ p ≡ at + 4 ⌝ }
+    ensures { λ p. ⌜ Written (now (out .entry)) (now (out .exit)) at (a ∷ b ∷ c ∷ d ∷ []) p ⌝ }
+{
+    let p = write_two(out, at, a, b);
+    write_two(out, p, c, d)
+}
+
+// r, g, b, mark, c, m, y, k.
+pub fn write_eight(out: &mut [f64], at: usize, colour: DeviceColor) -> usize
+    requires { ⌜ at + 8 ≤ length (now out) ⌝ }
+    ensures { λ p. ⌜ p ≡ at + 8 ⌝ }
+    ensures { λ p. ⌜ Written (now (out .entry)) (now (out .exit)) at (colourNumbers colour) p ⌝ }
+{
+    let inks = colour.inks;
+    match inks {
+        Inks::None => {
+            let p = write_four(out, at, colour.r, colour.g, colour.b, 0.0);
+            write_four(out, p, 0.0, 0.0, 0.0, 0.0)
+        }
+        Inks::Cmyk(c, m, y, k) => {
+            let p = write_four(out, at, colour.r, colour.g, colour.b, 1.0);
+            write_four(out, p, c, m, y, k)
+        }
+    }
+}
+
+pub fn write_all(out: &mut [f64], at: usize, values: &[f64]) -> usize
+    requires { ⌜ at + length (now values) ≤ length (now out) ⌝ }
+    ensures { λ p. ⌜ p ≡ at + length (now (values .entry)) ⌝ }
+    ensures { λ p. ⌜ Written (now (out .entry)) (now (out .exit)) at (now (values .entry)) p ⌝ }
+{
+    let n = values.len();
+    let mut j: usize = 0;
+    while j < n {
+        out[at + j] = values[j];
+        j += 1;
+    }
+    at + n
+}

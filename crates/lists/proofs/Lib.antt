@@ -1,0 +1,5 @@
+pub mod Pieces
+pub mod Writing
+pub mod Walking
+pub mod Members
+pub mod Offering

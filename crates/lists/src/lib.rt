@@ -1,0 +1,1 @@
+// Lists, and what it is to write one into lent memory: definitions in specs/, laws in proofs/. No code.

@@ -1,0 +1,73 @@
+-- The records of the four mesh types, and the raw reading of bytes: document 01, "Records, binary".
+use mathlib.Core.Bool.{Bool, true, false, _&&_, cond}
+use mathlib.Core.List.{List, [], _∷_, _++_}
+use mathlib.Core.Option.{Option, none, some}
+use Prim.Native.Nat.{ℕ, zero, suc, _+_, _*_}
+use lib.Dec.{leb, eqb}
+use lib.ListN.{length, take, drop, replicate}
+use Rattle.bits.specs.Bits.{number, stream}
+use Rattle.records.specs.declared.shape.Kind.{Kind}
+use Rattle.records.specs.declared.shape.Kind.the-variants.{Four, Five, Six, Seven}
+use Rattle.records.specs.declared.shape.Shape.{Shape}
+use Rattle.records.specs.declared.shape.Shape.the-variants.{Follows, Ends}
+
+-- ---- numbers side by side
+
+unfoldable pub sum : List ℕ → ℕ
+sum [] = 0
+sum (w ∷ ws) = w + sum ws
+
+-- the numbers of the given widths that bits begin with
+unfoldable pub numbers : List ℕ → List ℕ → List ℕ
+numbers [] bits = []
+numbers (w ∷ ws) bits = number (take w bits) ∷ numbers ws (drop w bits)
+
+-- ---- a mesh type
+
+-- A mesh type at given widths. Each record begins with a number of `first` bits. `more started x` has the widths of what follows the
+-- first number x; none: the mesh ends there. `started` says whether a record came before.
+pub record Format : Type 0 where
+  pub first : ℕ
+  pub more : Bool → ℕ → Option (List ℕ)
+
+-- Types 6 and 7, where a joined patch has so many points of its own. Flag 0: four points more, and four colours. Flags 1 to 3, once there
+-- is a patch: two colours. Else the mesh ends.
+abbrev pub patchShape : ℕ → Bool → ℕ → Shape
+patchShape own started flag =
+    cond (eqb flag 0) (Follows (2 * (4 + own)) 4) (cond (started && leb flag 3) (Follows (2 * own) 2) Ends)
+
+-- how many coordinates and colours follow a record's first number: x and y after a Type 4 flag, y after a Type 5 x
+abbrev pub shapeOf : Kind → Bool → ℕ → Shape
+shapeOf Four started x = Follows 2 1
+shapeOf Five started x = Follows 1 1
+shapeOf Six started x = patchShape 8 started x
+shapeOf Seven started x = patchShape 12 started x
+
+-- their widths, with n components to a colour
+abbrev pub widthsOf : ℕ → ℕ → ℕ → Shape → Option (List ℕ)
+widthsOf coord comp n (Follows coords colours) = some (replicate coords coord ++ replicate (colours * n) comp)
+widthsOf coord comp n Ends = none
+
+abbrev pub format : Kind → ℕ → ℕ → ℕ → ℕ → Format
+format kind first coord comp n = record { first = first; more = λ started x. widthsOf coord comp n (shapeOf kind started x) }
+
+-- ---- the raw reading: the numbers before Decode, flags included, complete records only
+
+-- the widths h ∷ ws, if that many bits are there
+unfoldable pub whole : ℕ → ℕ → Option (List ℕ) → Option (List ℕ)
+whole h l none = none
+whole h l (some ws) = cond (leb (h + sum ws) l) (some (h ∷ ws)) none
+
+-- the widths of the complete record that bits begin with; none: the reading ends here
+unfoldable pub next : Format → Bool → List ℕ → Option (List ℕ)
+next F started bits = whole (F .first) (length bits) (F .more started (number (take (F .first) bits)))
+
+-- the numbers of the complete records that bits begin with, k records at most
+unfoldable pub readings : Format → ℕ → Bool → List ℕ → List ℕ
+readings F zero started bits = []
+readings F (suc k) started bits =
+    elim (next F started bits) [ none ↦ [] | some ws ↦ numbers ws bits ++ readings F k true (drop (sum ws) bits) ]
+
+-- the raw reading of bytes. A record takes a bit at least, so there are no more records than bits
+unfoldable pub rawReading : Format → List ℕ → List ℕ
+rawReading F s = readings F (length (stream s)) false (stream s)

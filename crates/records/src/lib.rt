@@ -1,0 +1,3 @@
+// The layout test, the shape of each mesh type's records, and the raw readers.
+pub mod layout;
+pub mod shape;
