@@ -20,6 +20,7 @@ pub enum Answer {
 }
 
 // An answer as two numbers: a refusal's number or 0, and the count, 0 with a refusal.
+#[repr(C)]
 pub struct Told {
     pub refused: usize,
     pub count: usize,

@@ -1,3 +1,4 @@
 pub mod Layout
 pub mod Format
 pub mod Raw
+pub mod Loop

@@ -1,0 +1,12 @@
+pub mod Lists
+pub mod Triangles
+pub mod TwoRules
+pub mod Ported
+pub mod Lattice
+pub mod Tables
+pub mod Patches
+pub mod Meshes
+pub mod Walks
+pub mod Rows
+pub mod RawReading
+pub mod Examples

@@ -1,0 +1,116 @@
+-- What triangles and patches are written as: lengths, and what a writer finds again in its output to copy. Assumes nothing.
+use mathlib.Core.Path.{_≡_}
+use mathlib.Core.List.{List, [], _∷_, _++_, append-assoc, append-nil}
+use Prim.Native.Nat.{ℕ, _+_, _-_, _*_, _≤_, _<_}
+use native.Mathlib.Omega.{arith}
+use lib.ListN.{length, take, drop, length-append}
+use Rattle.lists.specs.Lists.{part, flat, All, AllBelow}
+use Rattle.lists.specs.Writing.{Written}
+use Rattle.lists.proofs.Pieces.{length-flat, flat-append, flat-more}
+use Rattle.lists.proofs.Writing.{written-part}
+use Rattle.rules.specs.Triangles.{Tri, corners}
+use Rattle.rules.specs.Patches.{Patch, Places, Table, at, onto, patchRow}
+use Rattle.rules.specs.Meshes.{patches, patchMesh}
+use Rattle.rules.specs.Properties.{Sized, Made, Fits}
+use Rattle.rules.proofs.Lists.{length-flat-all, flat-at, part-of-flat, all-map}
+use Rattle.rules.proofs.Meshes.{Numbered, patches-numbered}
+
+-- ---- triangles
+
+module _ {A : Type 0} (row : ℕ → List A) (size : ℕ) (sized : (i : ℕ) → length (row i) ≡ size) where
+  pub length-corners : (ts : List Tri) → length (flat (corners row) ts) ≡ length ts * (3 * size)
+  unfolding corners
+  length-corners ts = length-flat (corners row) (3 * size) ts (λ t. simp (length-append, sized) (omega arith))
+
+  -- the rows of the last triangle stand right before the end
+  pub record LastRows (d : A) (o : List A) (p : ℕ) (t : Tri) : Type 0 where
+    pub enough : 3 * size ≤ p
+    pub row-a : part d o (p - 3 * size) size ≡ row (t .a)
+    pub row-b : part d o (p - 2 * size) size ≡ row (t .b)
+    pub row-c : part d o (p - size) size ≡ row (t .c)
+
+  pub last-rows : (d : A) {l o : List A} {p : ℕ} (front : List Tri) (t : Tri) → Written l o 0 (flat (corners row) (front ++ (t ∷ []))) p
+      → LastRows d o p t
+  unfolding corners
+  last-rows d {l} {o} {p} front t w =
+      let f : List A = flat (corners row) front in
+      let a : List A = row (t .a) in
+      let b : List A = row (t .b) in
+      let c : List A = row (t .c) in
+      let la : length a ≡ size = sized _ in
+      let lb : length b ≡ size = sized _ in
+      let lc : length c ≡ size = sized _ in
+      let v : Written l o 0 (f ++ (a ++ (b ++ c))) p = rw (flat-more (corners row) front t) at w in
+      let v₂ : Written l o 0 ((f ++ a) ++ (b ++ c)) p = rw append-assoc v in
+      let v₃ : Written l o 0 (((f ++ a) ++ b) ++ (c ++ [])) p = rw (append-nil c, append-assoc (f ++ a) b c) v₂ in
+      let n : length (f ++ (a ++ (b ++ c))) ≡ length f + 3 * size = simp length-append (omega arith) in
+      let n₂ : length (f ++ a) ≡ length f + size = simp length-append (omega arith) in
+      let n₃ : length ((f ++ a) ++ b) ≡ length f + 2 * size = simp length-append (omega arith) in
+      let q : p ≡ 0 + length (f ++ (a ++ (b ++ c))) = v .after in
+      record {
+        enough = omega arith;
+        row-a = written-part d f a (b ++ c) (p - 3 * size) size v (omega arith) la;
+        row-b = written-part d (f ++ a) b c (p - 2 * size) size v₂ (omega arith) lb;
+        row-c = written-part d ((f ++ a) ++ b) c [] (p - size) size v₃ (omega arith) lc;
+      }
+
+-- ---- patches
+
+module _ {P C A : Type 0} (point : P → List A) (colour : C → List A) (a m : ℕ) where
+  -- a point takes a places, and a colour m
+  abbrev pub Rows : Patch P C → Type 0
+  Rows p = Made (λ (x : P). length (point x) ≡ a) (λ (x : C). length (colour x) ≡ m) p
+
+  pub length-patchRow : (points colours : ℕ) (p : Patch P C) → Sized points colours p → Rows p
+      → length (patchRow point colour p) ≡ points * a + colours * m
+  unfolding patchRow
+  length-patchRow points colours p z r =
+      rw (length-append, length-flat-all point a (p .points) (r .0), length-flat-all colour m (p .colours) (r .1), z .0, z .1)
+
+  -- Where the row of the patch before stands in the output from index q on, that of a joined patch is a copy of the side there, then its own.
+  module _ (d : A) (out front back : List A) (q : ℕ) (b : Patch P C) (r : Rows b) (n : length front ≡ q)
+      (e : out ≡ front ++ (patchRow point colour b ++ back)) where
+    point-found : (i : ℕ) → i < length (b .points) → flat point (take 1 (drop i (b .points))) ≡ part d out (q + i * a) a
+    unfolding patchRow
+    point-found i h =
+        rw (e, append-assoc, ← n) (part-of-flat point d a front (b .points) (flat colour (b .colours) ++ back) i (r .0) h)
+
+    colour-found : (i : ℕ) → i < length (b .colours) → flat colour (take 1 (drop i (b .colours))) ≡ part d out (q + length (b .points) * a + i * m) m
+    unfolding patchRow
+    colour-found i h =
+        let before : List A = front ++ flat point (b .points) in
+        let l = length-flat-all point a (b .points) (r .0) in
+        let k : q + length (b .points) * a ≡ length before = omega (arith, length-append front (flat point (b .points))) in
+        rw (e, append-assoc, ← (append-assoc front (flat point (b .points)) (flat colour (b .colours) ++ back)), k)
+        (part-of-flat colour d m before (b .colours) back i (r .1) h)
+
+    pub onto-row : (s : Places) (o : Patch P C) → AllBelow (length (b .points)) (s .points) → AllBelow (length (b .colours)) (s .colours)
+        → patchRow point colour (onto b s o)
+        ≡ (flat (λ (i : ℕ). part d out (q + i * a) a) (s .points) ++ flat point (o .points))
+        ++ (flat (λ (i : ℕ). part d out (q + length (b .points) * a + i * m) m) (s .colours) ++ flat colour (o .colours))
+    unfolding patchRow
+    onto-row s o ps cs =
+        rw (
+          flat-append point (at (b .points) (s .points)) (o .points),
+          flat-append colour (at (b .colours) (s .colours)) (o .colours),
+          flat-at point (λ (i : ℕ). part d out (q + i * a) a) (b .points) (s .points) ps point-found,
+          flat-at colour (λ (i : ℕ). part d out (q + length (b .points) * a + i * m) m) (b .colours) (s .colours) cs colour-found,
+        )
+
+-- ---- the patches of a list of numbers
+
+module _ {A B : Type 0} (d : A) (point colour : List A → List B) (a m n : ℕ) (point-sized : (x : List A) → length x ≡ 2 → length (point x) ≡ a)
+    (colour-sized : (x : List A) → length x ≡ n → length (colour x) ≡ m) where
+  pub numbered-rows : (points colours : ℕ) (p : Patch (List A) (List A)) → Numbered points colours n p → Rows point colour a m p
+  numbered-rows points colours p h = (all-map _ _ (p .points) point-sized (h .1 .0), all-map _ _ (p .colours) colour-sized (h .1 .1))
+
+  length-all : (own : ℕ) (ps : List (Patch (List A) (List A))) → All (Numbered (4 + own) 4 n) ps
+      → length (flat (patchRow point colour) ps) ≡ length ps * ((4 + own) * a + 4 * m)
+  length-all own ps h =
+      length-flat-all (patchRow point colour) ((4 + own) * a + 4 * m) ps
+      (all-map _ _ ps (λ p h. length-patchRow point colour a m (4 + own) 4 p (h .0) (numbered-rows (4 + own) 4 p h)) h)
+
+  pub length-patchMesh : (T : Table) (flagOf : A → ℕ) (own : ℕ) → All (Fits (4 + own)) T → (xs : List A)
+      → length (patchMesh d point colour T flagOf own n xs) ≡ length (patches d T flagOf own n xs) * ((4 + own) * a + 4 * m)
+  unfolding patchMesh
+  length-patchMesh T flagOf own fit xs = length-all own (patches d T flagOf own n xs) (patches-numbered d flagOf own n T fit xs)
