@@ -1,0 +1,12 @@
+pub mod Filling
+pub mod Runs
+pub mod Shapes
+pub mod Records
+pub mod Putting
+pub mod Passing
+pub mod Finishing
+pub mod Accepting
+pub mod Refusing
+pub mod RoundTrip
+pub mod Demand
+pub mod Examples

@@ -1,0 +1,90 @@
+-- The refusals, row by row: what a call has passed that was not refused. Assumes nothing.
+use mathlib.Core.Path.{_≡_, refl}
+use mathlib.Core.Bool.{Bool, true, false, _&&_, not}
+use mathlib.Core.List.{List, []}
+use mathlib.Core.Option.{Option, none, some}
+use Prim.Native.Nat.{ℕ, _≤_}
+use native.Mathlib.Omega.{arith}
+use borrow.Author.Tests.{leb-true, ltb-false, not-false}
+use lib.Dec.{leb, ltb}
+use lib.ListN.{length}
+use Rattle.answers.specs.declared.Refusal.{Refusal}
+use Rattle.answers.specs.declared.Refusal.the-variants.{Layout, Components, Length, Room, Thin}
+use Rattle.answers.specs.Limits.{mostComponents, mostNumbers}
+use Rattle.answers.specs.Outcome.{Outcome, refused, wrote, refuseIf, fitted}
+use Rattle.bits.specs.Reading.{readable}
+use Rattle.records.specs.declared.shape.Kind.{Kind}
+use Rattle.records.specs.Layout.{widthsReadable}
+use Rattle.records.specs.Format.{format}
+use Rattle.packing.specs.Bytes.{bytes}
+use Rattle.packing.specs.Accepted.{packed}
+use Rattle.packing.specs.Writer.{thin, inBytes, rawWrite}
+use Rattle.packing.proofs.Runs.{and-left, and-right}
+
+-- ---- the widths
+
+pub record Within (w : ℕ) : Type 0 where
+  pub least : 1 ≤ w
+  pub most : w ≤ 32
+
+within : (w : ℕ) → readable w ≡ true → Within w
+within w e = record { least = leb-true 1 w (and-left (leb 1 w) (leb w 32) e); most = leb-true w 32 (and-right (leb 1 w) (leb w 32) e) }
+
+pub widths-within : (first coord comp : ℕ) → widthsReadable first coord comp ≡ true → Within first × Within coord × Within comp
+unfolding widthsReadable
+widths-within first coord comp e =
+    let r = and-right (readable coord) (readable comp && readable first) e in (
+      within first (and-right (readable comp) (readable first) r),
+      within coord (and-left (readable coord) (readable comp && readable first) e),
+      within comp (and-left (readable comp) (readable first) r),
+    )
+
+-- ---- the rows
+
+passed : (t : Bool) (r : Refusal) (o : Outcome ℕ) (k : ℕ) (bs : List ℕ) → refuseIf t r o ≡ wrote k bs → (t ≡ false) × (o ≡ wrote k bs)
+passed true r o k bs e = absurd (let z : _≡_ {A = ℕ} 0 1 = cc in omega arith)
+passed false r o k bs e = (refl, e)
+
+-- what an accepted call has passed
+pub record Accepted (kind : Kind) (first coord comp n : ℕ) (xs : List ℕ) (k : ℕ) (bs : List ℕ) : Type 0 where
+  pub widths : widthsReadable first coord comp ≡ true
+  pub components : n ≤ mostComponents
+  pub short : length xs ≤ mostNumbers
+  pub thick : thin kind first coord comp n ≡ false
+  pub bits : List ℕ
+  pub are : packed (format kind first coord comp n) false [] xs ≡ some bits
+  pub in-bytes : bs ≡ bytes bits
+  pub count : k ≡ length (bytes bits)
+
+in-bytes-some : (o : Option (List ℕ)) (room k : ℕ) (bs : List ℕ) → inBytes o room ≡ wrote k bs
+    → (bits : List ℕ) × (o ≡ some bits) × (bs ≡ bytes bits) × (k ≡ length (bytes bits))
+unfolding inBytes fitted
+in-bytes-some none room k bs e = absurd (let z : _≡_ {A = ℕ} 0 1 = cc in omega arith)
+in-bytes-some (some bits) room k bs e =
+    let p = passed (ltb room (length (bytes bits))) Room (wrote (length (bytes bits)) (bytes bits)) k bs e in
+    let q = p .1 in
+    (bits, refl, cc, cc)
+
+pub accepted : (kind : Kind) (first coord comp n : ℕ) (xs : List ℕ) (room k : ℕ) (bs : List ℕ)
+    → rawWrite kind first coord comp n xs room ≡ wrote k bs → Accepted kind first coord comp n xs k bs
+unfolding rawWrite
+accepted kind first coord comp n xs room k bs e =
+    let o = inBytes (packed (format kind first coord comp n) false [] xs) room in
+    let o3 = refuseIf (thin kind first coord comp n) Thin o in
+    let o2 = refuseIf (ltb mostNumbers (length xs)) Length o3 in
+    let o1 = refuseIf (ltb mostComponents n) Components o2 in
+    let p0 = passed (not (widthsReadable first coord comp)) Layout o1 k bs e in
+    let p1 = passed (ltb mostComponents n) Components o2 k bs (p0 .1) in
+    let p2 = passed (ltb mostNumbers (length xs)) Length o3 k bs (p1 .1) in
+    let p3 = passed (thin kind first coord comp n) Thin o k bs (p2 .1) in
+    let b = in-bytes-some (packed (format kind first coord comp n) false [] xs) room k bs (p3 .1) in
+    record {
+      widths = not-false (widthsReadable first coord comp) (p0 .0);
+      components = ltb-false mostComponents n (p1 .0);
+      short = ltb-false mostNumbers (length xs) (p2 .0);
+      thick = p3 .0;
+      bits = b .0;
+      are = b .1;
+      in-bytes = b .2;
+      count = b .3;
+    }

@@ -1,0 +1,24 @@
+-- Which lists of raw numbers a writer accepts, and the bits that it packs them into: document 01, "Records, binary" and RECORD.
+use mathlib.Core.Bool.{Bool, true, cond}
+use mathlib.Core.List.{List, [], _∷_, _++_}
+use mathlib.Core.Option.{Option, none, some, Option·map}
+use Prim.Native.Nat.{ℕ, _^_}
+use lib.Dec.{ltb}
+use Rattle.bits.specs.Bits.{bitsOf}
+use Rattle.records.specs.Format.{Format}
+
+-- the bits b, then those of the rest, if the rest is accepted
+abbrev pub joinedTo : List ℕ → Option (List ℕ) → Option (List ℕ)
+joinedTo b rest = Option·map (λ (r : List ℕ). b ++ r) rest
+
+-- the w bits of a number, then the rest; none: the number doesn't fit its width
+unfoldable pub field : ℕ → ℕ → Option (List ℕ) → Option (List ℕ)
+field w x rest = cond (ltb x (2 ^ w)) (joinedTo (bitsOf w x) rest) none
+
+-- The bits of a list of raw numbers. `due` are the widths that the record begun still wants. none: a number doesn't fit its width, the list
+-- ends inside a record, or a record begins with a flag at which the mesh ends (above 3; or not 0, where no record came before).
+unfoldable pub packed : Format → Bool → List ℕ → List ℕ → Option (List ℕ)
+packed F started [] [] = some []
+packed F started (w ∷ due) [] = none
+packed F started [] (x ∷ xs) = elim (F .more started x) [ none ↦ none | some due ↦ field (F .first) x (packed F true due xs) ]
+packed F started (w ∷ due) (x ∷ xs) = field w x (packed F started due xs)

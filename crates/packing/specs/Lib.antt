@@ -1,0 +1,4 @@
+pub mod Bytes
+pub mod Accepted
+pub mod Writer
+pub mod Passes
