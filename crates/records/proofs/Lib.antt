@@ -1,2 +1,9 @@
+pub mod Layouts
 pub mod Readings
+pub mod Counts
 pub mod Loop
+pub mod VertexLoop
+pub mod Runs
+pub mod Finding
+pub mod Walks
+pub mod Filling

@@ -1,5 +1,5 @@
 -- The raw reading: where it goes on, where it ends, and that a cut gives a beginning. Assumes nothing.
-use mathlib.Core.Path.{_≡_, refl, sym, ap, ap₂, _∙_, subst}
+use mathlib.Core.Path.{_≡_, refl, sym, ap, ap₂, _∙_}
 use mathlib.Core.Bool.{Bool, true, false, cond}
 use mathlib.Core.List.{List, [], _∷_, _++_}
 use mathlib.Core.Option.{Option, none, some, Option·none-ne-some}
@@ -13,8 +13,12 @@ use lib.Seq.{take-append-le, drop-append-le, drop-drop}
 use Rattle.lists.specs.Lists.{Begins}
 use Rattle.lists.proofs.Members.{begins-nothing, begins-after, begins-of-take}
 use Rattle.bits.specs.Bits.{number, stream}
-use Rattle.bits.proofs.Streams.{stream-append}
+use Rattle.bits.proofs.Streams.{length-stream, stream-append}
 use Rattle.records.specs.Format.{sum, numbers, Format, whole, next, readings, rawReading}
+
+-- the bits from a place on
+pub length-from : (s : List ℕ) (p : ℕ) → p ≤ 8 * length s → p + length (drop p (stream s)) ≡ 8 * length s
+length-from s p h = rw (length-drop, length-stream) (omega arith)
 
 -- ---- numbers side by side
 
@@ -136,6 +140,13 @@ readings-enough F (suc k) zero started b f h g =
     let e = next-empty F started b f g in readings-none F (suc k) started b e ∙ sym (readings-none F zero started b e)
 readings-enough F (suc k) (suc m) started b f h g =
     enough-step F k m started b (next F started b) refl f h g (λ c. readings-enough F k m true c f)
+
+-- so at such a bound a record is read off, and the bound stays
+pub readings-on : (F : Format) (k : ℕ) (started : Bool) (b vs : List ℕ) → 1 ≤ F .first → length b ≤ k → next F started b ≡ some vs
+    → readings F k started b ≡ numbers vs b ++ readings F k true (drop (sum vs) b)
+readings-on F k started b vs f h e =
+    let r = next-size F started b vs e in
+    readings-enough F k (suc k) started b f h (omega arith) ∙ readings-some F k started b vs e
 
 -- ---- a cut
 

@@ -2,3 +2,5 @@ pub mod Layout
 pub mod Format
 pub mod Raw
 pub mod Loop
+pub mod VertexLoop
+pub mod Walk
