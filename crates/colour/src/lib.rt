@@ -104,6 +104,21 @@ pub fn components_to_color(comps: &[f64]) -> DeviceColor
     DeviceColor::from_rgb(a, b, c)
 }
 
+// The eight numbers of a colour, r, g, b, mark, c, m, y, k, written to out from index at if there is room for them. Answers the index
+// after what was written.
+pub fn write_numbers(colour: DeviceColor, out: &mut [f64], at: usize) -> usize
+    ensures { λ p. ⌜ Offered (now (out .entry)) (now (out .exit)) at (colourNumbers colour) p ⌝ }
+{
+    if out.len() < at {
+        return at;
+    }
+    let room = out.len() - at;
+    if room < 8 {
+        return at;
+    }
+    numbers::write_eight(out, at, colour)
+}
+
 // The row of a colour and its components, 8 + n numbers, written to out from index at if there is room for it. Answers the index after
 // what was written.
 pub fn write_colour(colour: DeviceColor, comps: &[f64], out: &mut [f64], at: usize) -> usize

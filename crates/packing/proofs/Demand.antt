@@ -17,12 +17,13 @@ use Rattle.answers.proofs.OneOutcome.{one-answer}
 use Rattle.records.specs.declared.shape.Kind.{Kind}
 use Rattle.records.specs.Format.{format, rawReading}
 use Rattle.records.specs.Raw.{rawRead}
+use Rattle.records.proofs.Layouts.{widths-readable}
 use Rattle.records.proofs.Readings.{cut-begins}
 use Rattle.packing.specs.Bytes.{bytes}
 use Rattle.packing.specs.Writer.{rawWrite}
 use Rattle.packing.proofs.Filling.{length-bytes}
 use Rattle.packing.proofs.Accepting.{accepted-bits}
-use Rattle.packing.proofs.Refusing.{accepted, widths-within}
+use Rattle.packing.proofs.Refusing.{accepted}
 use Rattle.packing.proofs.RoundTrip.{read-back, thick}
 
 module _ (kind : Kind) (first coord comp n : ℕ) where
@@ -31,10 +32,10 @@ module _ (kind : Kind) (first coord comp n : ℕ) where
       → rawReading (format kind first coord comp n) bs ≡ xs
   reads-back xs room k bs e =
       let a = accepted kind first coord comp n xs room k bs e in
-      let w = widths-within first coord comp (a .widths) in
-      let b = accepted-bits kind first coord comp n xs (a .bits) (w .0 .most) (w .1 .most) (w .2 .most) (a .are) in
+      let w = widths-readable first coord comp (a .widths) in
+      let b = accepted-bits kind first coord comp n xs (a .bits) (w .of-first .few-bits) (w .of-coord .few-bits) (w .of-comp .few-bits) (a .are) in
       rw (a .in-bytes)
-      (read-back (format kind first coord comp n) (thick first coord comp n (w .1 .least) kind (a .thick)) xs (a .bits) (b .below) (a .are))
+      (read-back (format kind first coord comp n) (thick first coord comp n (w .of-coord .some-bits) kind (a .thick)) xs (a .bits) (b .below) (a .are))
 
   -- no two different accepted lists share bytes
   pub no-two-share : (xs ys : List ℕ) (room room′ k k′ : ℕ) (bs : List ℕ) → rawWrite kind first coord comp n xs room ≡ wrote k bs
@@ -67,8 +68,8 @@ read-written : (kind : Kind) (first coord comp n : ℕ) (xs : List ℕ) (room k 
 unfolding rawRead fitted
 read-written kind first coord comp n xs room k bs room′ e h =
     let a = accepted kind first coord comp n xs room k bs e in
-    let w = widths-within first coord comp (a .widths) in
-    let b = accepted-bits kind first coord comp n xs (a .bits) (w .0 .most) (w .1 .most) (w .2 .most) (a .are) in
+    let w = widths-readable first coord comp (a .widths) in
+    let b = accepted-bits kind first coord comp n xs (a .bits) (w .of-first .few-bits) (w .of-coord .few-bits) (w .of-comp .few-bits) (a .are) in
     let size : length bs ≤ mostBytes = omega (arith, ap length (a .in-bytes), length-bytes (a .bits), b .few, a .short) in
     rw (
       a .widths,

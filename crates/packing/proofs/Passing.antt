@@ -1,7 +1,7 @@
 -- A pass over a list, record by record: it goes on, it stops, or it comes to the end. Assumes nothing.
 use mathlib.Core.Path.{_≡_, refl, sym, ap, _∙_}
 use mathlib.Core.Bool.{Bool, true, false}
-use mathlib.Core.List.{List, [], _++_, append-assoc, append-nil}
+use mathlib.Core.List.{List, [], _++_, append-nil}
 use mathlib.Core.Option.{Option, none, some}
 use Prim.Native.Nat.{ℕ, _+_, _*_, _≤_, _<_}
 use native.Mathlib.Omega.{arith}
@@ -15,18 +15,14 @@ use Rattle.packing.specs.declared.mesh.Found.the-variants.{Record, End}
 use Rattle.packing.specs.Accepted.{joinedTo, packed}
 use Rattle.packing.specs.Passes.{formatOf, Stands, recordFits, recordBits, recordSize, Roomy}
 use Rattle.packing.proofs.Runs.{length-run-bits}
-use Rattle.packing.proofs.Records.{guarded, packed-ends, packed-record}
+use Rattle.packing.proofs.Records.{joined-nothing, joined-twice, guarded, packed-ends, packed-record}
 
 -- the records before index i are whole, and have the bits b
 abbrev pub Reached : Mesh → List ℕ → ℕ → List ℕ → Type 0
 Reached m xs i b = packed (formatOf m) false [] xs ≡ joinedTo b (packed (formatOf m) (ltb 0 i) [] (drop i xs))
 
 pub reached-start : (m : Mesh) (xs : List ℕ) → Reached m xs 0 []
-reached-start m xs = nothing (packed (formatOf m) false [] xs)
-  where
-    nothing : (o : Option (List ℕ)) → o ≡ joinedTo [] o
-    nothing none = refl
-    nothing (some r) = refl
+reached-start m xs = joined-nothing (packed (formatOf m) false [] xs)
 
 pub reached-end : (m : Mesh) (xs b : List ℕ) (i : ℕ) → Reached m xs i b → i ≡ length xs → packed (formatOf m) false [] xs ≡ some b
 unfolding packed
@@ -62,12 +58,8 @@ module _ (m : Mesh) (xs b : List ℕ) (i coords comps : ℕ) (r : Reached m xs i
   pub reached-more : recordFits m coords comps xs i ≡ true → Reached m xs next (b ++ recordBits m coords comps xs i)
   reached-more f =
       (rw f at reached-record)
-      ∙ joined-twice rest
+      ∙ joined-twice b (recordBits m coords comps xs i) rest
       ∙ ap (λ (t : Bool). joinedTo (b ++ recordBits m coords comps xs i) (packed (formatOf m) t [] (drop next xs))) (sym (lt-ltb 0 next (omega arith)))
-    where
-      joined-twice : (o : Option (List ℕ)) → joinedTo b (joinedTo (recordBits m coords comps xs i) o) ≡ joinedTo (b ++ recordBits m coords comps xs i) o
-      joined-twice none = refl
-      joined-twice (some t) = ap some (sym (append-assoc b (recordBits m coords comps xs i) t))
 
   -- in a list that is accepted and has room, the record fits and has room
   pub reached-room : (room : ℕ) → Roomy (packed (formatOf m) false [] xs) room

@@ -49,8 +49,8 @@ shifted bits w h =
     let e : 64 ≡ (64 - w) + w = omega arith in
     ap (λ (k : ℕ). bits * 2 ^ w % 2 ^ k) e ∙ mod-pow-add (bits * 2 ^ w) (64 - w) w ∙ rw (shl-shr bits w, mul-mod-left bits (2 ^ w)) (add-zero _)
 
-pub bits-below : (count w bits x : ℕ) → count + w ≤ 64 → x < 2 ^ w → bitsOf (count + w) (bitOr (bits * 2 ^ w % 2 ^ 64) x) ≡ bitsOf count bits ++ bitsOf w x
-bits-below count w bits x h f =
+pub bits-put : (count w bits x : ℕ) → count + w ≤ 64 → x < 2 ^ w → bitsOf (count + w) (bitOr (bits * 2 ^ w % 2 ^ 64) x) ≡ bitsOf count bits ++ bitsOf w x
+bits-put count w bits x h f =
     let room : 64 - w ≡ (64 - w - count) + count = omega arith in
     let z : ℕ = bits % 2 ^ (64 - w) in
     let low : z % 2 ^ count ≡ bits % 2 ^ count = ap (λ (k : ℕ). bits % 2 ^ k % 2 ^ count) room ∙ mod-mod-pow bits (64 - w - count) count in
@@ -106,7 +106,7 @@ module _ (a : Waiting) (x w : ℕ) (l : List ℕ) (f : x < 2 ^ w) (few : a .coun
         written = written-none l (a .at) (omega arith);
         clean = tt;
         few = c;
-        same = bits-below (a .count) w (a .bits) x (omega arith) f;
+        same = bits-put (a .count) w (a .bits) x (omega arith) f;
       }
 
   -- four bytes go out
@@ -122,7 +122,7 @@ module _ (a : Waiting) (x w : ℕ) (l : List ℕ) (f : x < 2 ^ w) (few : a .coun
         few = omega arith;
         same =
             rw (s .same)
-            (sym (bits-add 32 left wide) ∙ ap (λ (n : ℕ). bitsOf n wide) e ∙ bits-below (a .count) w (a .bits) x (omega arith) f);
+            (sym (bits-add 32 left wide) ∙ ap (λ (n : ℕ). bitsOf n wide) e ∙ bits-put (a .count) w (a .bits) x (omega arith) f);
       }
 
 -- ---- the bits that are left
@@ -136,5 +136,5 @@ flush-writes a {l} {o} h s =
     let e : 8 * byteCount (a .count) ≡ a .count + z = omega arith in
     let f : ℕ = a .bits * 2 ^ z % 2 ^ 64 in
     let filled : bitsOf (8 * byteCount (a .count)) f ≡ bitsOf (a .count) (a .bits) ++ replicate z 0 =
-    ap₂ bitsOf e (sym (or-zero-r f)) ∙ bits-below (a .count) z (a .bits) 0 (omega arith) (pow-pos z) ∙ ap (λ (b : List ℕ). bitsOf (a .count) (a .bits) ++ b) (zeros z) in
+    ap₂ bitsOf e (sym (or-zero-r f)) ∙ bits-put (a .count) z (a .bits) 0 (omega arith) (pow-pos z) ∙ ap (λ (b : List ℕ). bitsOf (a .count) (a .bits) ++ b) (zeros z) in
     rw (← bytes-are (s .bytes) (bitsOf (a .count) (a .bits)) z (s .clean) (s .same ∙ filled) (omega arith)) (s .written)

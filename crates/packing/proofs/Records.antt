@@ -22,9 +22,16 @@ use Rattle.packing.proofs.Runs.{and-left, and-right, length-run}
 abbrev pub guarded : Bool → List ℕ → Option (List ℕ) → Option (List ℕ)
 guarded test b rest = cond test (joinedTo b rest) none
 
+pub joined-nothing : (o : Option (List ℕ)) → o ≡ joinedTo [] o
+joined-nothing none = refl
+joined-nothing (some r) = refl
+
+pub joined-twice : (a b : List ℕ) (o : Option (List ℕ)) → joinedTo a (joinedTo b o) ≡ joinedTo (a ++ b) o
+joined-twice a b none = refl
+joined-twice a b (some r) = ap some (sym (append-assoc a b r))
+
 guarded-then : (s t : Bool) (a b : List ℕ) (o : Option (List ℕ)) → guarded s a (guarded t b o) ≡ guarded (s && t) (a ++ b) o
-guarded-then true true a b none = refl
-guarded-then true true a b (some r) = ap some (sym (append-assoc a b r))
+guarded-then true true a b o = joined-twice a b o
 guarded-then true false a b o = refl
 guarded-then false t a b o = refl
 
@@ -38,11 +45,7 @@ module _ (F : Format) (started : Bool) where
   packed-run : (w : ℕ) (ys due zs : List ℕ)
       → packed F started (replicate (length ys) w ++ due) (ys ++ zs) ≡ guarded (fits w ys) (runBits w ys) (packed F started due zs)
   unfolding packed field fits flat
-  packed-run w [] due zs = nothing (packed F started due zs)
-    where
-      nothing : (o : Option (List ℕ)) → o ≡ joinedTo [] o
-      nothing none = refl
-      nothing (some r) = refl
+  packed-run w [] due zs = joined-nothing (packed F started due zs)
   packed-run w (y ∷ ys) due zs =
       rw (packed-run w ys due zs) (guarded-then (ltb y (2 ^ w)) (fits w ys) (bitsOf w y) (runBits w ys) (packed F started due zs))
 

@@ -1,45 +1,23 @@
 -- The refusals, row by row: what a call has passed that was not refused. Assumes nothing.
 use mathlib.Core.Path.{_≡_, refl}
-use mathlib.Core.Bool.{Bool, true, false, _&&_, not}
+use mathlib.Core.Bool.{Bool, true, false, not}
 use mathlib.Core.List.{List, []}
 use mathlib.Core.Option.{Option, none, some}
 use Prim.Native.Nat.{ℕ, _≤_}
 use native.Mathlib.Omega.{arith}
-use borrow.Author.Tests.{leb-true, ltb-false, not-false}
-use lib.Dec.{leb, ltb}
+use borrow.Author.Tests.{ltb-false, not-false}
+use lib.Dec.{ltb}
 use lib.ListN.{length}
 use Rattle.answers.specs.declared.Refusal.{Refusal}
 use Rattle.answers.specs.declared.Refusal.the-variants.{Layout, Components, Length, Room, Thin}
 use Rattle.answers.specs.Limits.{mostComponents, mostNumbers}
 use Rattle.answers.specs.Outcome.{Outcome, refused, wrote, refuseIf, fitted}
-use Rattle.bits.specs.Reading.{readable}
 use Rattle.records.specs.declared.shape.Kind.{Kind}
 use Rattle.records.specs.Layout.{widthsReadable}
 use Rattle.records.specs.Format.{format}
 use Rattle.packing.specs.Bytes.{bytes}
 use Rattle.packing.specs.Accepted.{packed}
 use Rattle.packing.specs.Writer.{thin, inBytes, rawWrite}
-use Rattle.packing.proofs.Runs.{and-left, and-right}
-
--- ---- the widths
-
-pub record Within (w : ℕ) : Type 0 where
-  pub least : 1 ≤ w
-  pub most : w ≤ 32
-
-within : (w : ℕ) → readable w ≡ true → Within w
-within w e = record { least = leb-true 1 w (and-left (leb 1 w) (leb w 32) e); most = leb-true w 32 (and-right (leb 1 w) (leb w 32) e) }
-
-pub widths-within : (first coord comp : ℕ) → widthsReadable first coord comp ≡ true → Within first × Within coord × Within comp
-unfolding widthsReadable
-widths-within first coord comp e =
-    let r = and-right (readable coord) (readable comp && readable first) e in (
-      within first (and-right (readable comp) (readable first) r),
-      within coord (and-left (readable coord) (readable comp && readable first) e),
-      within comp (and-left (readable comp) (readable first) r),
-    )
-
--- ---- the rows
 
 passed : (t : Bool) (r : Refusal) (o : Outcome ℕ) (k : ℕ) (bs : List ℕ) → refuseIf t r o ≡ wrote k bs → (t ≡ false) × (o ≡ wrote k bs)
 passed true r o k bs e = absurd (let z : _≡_ {A = ℕ} 0 1 = cc in omega arith)

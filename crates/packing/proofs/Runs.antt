@@ -19,7 +19,7 @@ use Rattle.packing.specs.Passes.{run, fits, runBits}
 pub length-run : (xs : List ℕ) (from count : ℕ) → from + count ≤ length xs → length (run xs from count) ≡ count
 length-run xs from count h = length-take-le count (drop from xs) (omega (arith, length-drop from xs))
 
-pub run-more : (xs : List ℕ) (from k : ℕ) → from + k < length xs → run xs from (k + 1) ≡ run xs from k ++ (getD xs (from + k) 0 ∷ [])
+run-more : (xs : List ℕ) (from k : ℕ) → from + k < length xs → run xs from (k + 1) ≡ run xs from k ++ (getD xs (from + k) 0 ∷ [])
 run-more xs from k h =
     let l : k < length (drop from xs) = omega (arith, length-drop from xs) in
     rw (add-one, take-suc (drop from xs) k 0 l, getD-drop)

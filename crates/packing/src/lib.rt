@@ -26,7 +26,7 @@ pub fn raw_write_type4(
     write(numbers, Kind::Four, flag, coord, comp, n, out)
 }
 
-// Type 5 has no flag: a vertex begins with its x.
+// Type 5 has no flag: a vertex begins with x.
 pub fn raw_write_type5(
     numbers: &[u32],
     coord: usize,

@@ -5,7 +5,7 @@ use borrow.Author.Tests.{not-false, lt-ltb, le-ltb}
 use Rattle.answers.proofs.Outcomes.{was-refused}
 use Rattle.packing.specs.Writer.{rawWrite}
 use Rattle.packing.specs.Passes.{Readable}
-use Rattle.packing.proofs.Refusing.{widths-within}
+use Rattle.records.proofs.Layouts.{widths-readable}
 use borrow.Author.Needs.{needs}
 use Rattle.packing.proofs.write.write.Statement.{statement}
 use Rattle.packing.proofs.write.write.Tie as tie
@@ -30,8 +30,8 @@ readable : (c : tie.Else2)
     → Readable (record { kind = c .before .before .before .before .before .args .kind; first = c .before .before .before .before .before .args .first; coord = c .before .before .before .before .before .args .coord; comp = c .before .before .before .before .before .args .comp; n = c .before .before .before .before .before .args .n })
 readable c =
     let a = c .before .before .before .before .before .args in
-    let w = widths-within (a .first) (a .coord) (a .comp) (sym (c .before .before .widths-are-readable .ensures) ∙ not-false _ (c .before .if1 .left)) in
-    record { first-few = w .0 .most; coord-few = w .1 .most; comp-few = w .2 .most; n-few = c .if2 .left }
+    let w = widths-readable (a .first) (a .coord) (a .comp) (sym (c .before .before .widths-are-readable .ensures) ∙ not-false _ (c .before .if1 .left)) in
+    record { first-few = w .of-first .few-bits; coord-few = w .of-coord .few-bits; comp-few = w .of-comp .few-bits; n-few = c .if2 .left }
 
 is-thin-requires : tie.Need-is-thin-requires
 is-thin-requires c κs = readable (c .before)

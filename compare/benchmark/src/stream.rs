@@ -1,0 +1,81 @@
+//! Inputs for the benchmark: whole records from a fixed generator, with the flags of a mesh that goes on.
+
+use station::{Kind, Layout};
+
+/// A fixed generator, so that every run times the same input.
+pub struct Generator(u64);
+
+impl Generator {
+    pub fn new() -> Self {
+        Generator(0x9e37_79b9_7f4a_7c15)
+    }
+
+    pub fn next(&mut self) -> u64 {
+        self.0 = self
+            .0
+            .wrapping_mul(6_364_136_223_846_793_005)
+            .wrapping_add(1_442_695_040_888_963_407);
+        self.0
+    }
+}
+
+/// The flag of a mesh's i-th record: a first triangle or patch, then joined ones by turns, and now and then a new one.
+fn flag(kind: Kind, i: usize) -> u64 {
+    match kind {
+        Kind::Type4 => match i % 16 {
+            0..=2 => 0,
+            k if k % 2 == 0 => 2,
+            _ => 1,
+        },
+        Kind::Type5 => 0,
+        Kind::Type6 | Kind::Type7 => (i % 4) as u64,
+    }
+}
+
+/// How many coordinates and colours follow a record's flag; in Type 5, which has none, how many make a record.
+fn shape(kind: Kind, flag: u64) -> (usize, usize) {
+    match (kind, flag) {
+        (Kind::Type4 | Kind::Type5, _) => (2, 1),
+        (Kind::Type6, 0) => (24, 4),
+        (Kind::Type6, _) => (16, 2),
+        (Kind::Type7, 0) => (32, 4),
+        (Kind::Type7, _) => (24, 2),
+    }
+}
+
+/// The widths of each number of the i-th record, with the value of its flag.
+pub fn record(kind: Kind, l: Layout, i: usize) -> (Option<u64>, Vec<usize>) {
+    let f = flag(kind, i);
+    let (coords, colours) = shape(kind, f);
+    let mut widths = Vec::new();
+    if kind != Kind::Type5 {
+        widths.push(l.flag);
+    }
+    widths.extend(std::iter::repeat_n(l.coordinate, coords));
+    widths.extend(std::iter::repeat_n(l.component, colours * l.components));
+    ((kind != Kind::Type5).then_some(f), widths)
+}
+
+/// As many whole records as fit into so many bytes.
+pub fn bytes(kind: Kind, l: Layout, size: usize) -> Vec<u8> {
+    let mut out = vec![0u8; size];
+    let mut place = 0;
+    let mut random = Generator::new();
+    for i in 0.. {
+        let (flag, widths) = record(kind, l, i);
+        if place + widths.iter().sum::<usize>() > 8 * size {
+            break;
+        }
+        for (k, &w) in widths.iter().enumerate() {
+            let value = match flag {
+                Some(f) if k == 0 => f,
+                _ => random.next() >> (64 - w),
+            };
+            for b in (0..w).rev() {
+                out[place / 8] |= (((value >> b) & 1) as u8) << (7 - place % 8);
+                place += 1;
+            }
+        }
+    }
+    out
+}
