@@ -1,0 +1,6 @@
+pub mod PatchNumbers
+pub mod PatchRecords
+pub mod ListedPatches
+pub mod ReadPatches
+pub mod PatchRanges
+pub mod PatchReadings

@@ -1,0 +1,73 @@
+-- How the readings of Types 6 and 7 go together. In bytes the published reading is the ported one, `parse6 sides` and `parse7 sides`, and so it is
+-- of the Type 6 list, `build6 sides`: one definition, one outcome. The Type 7 list has two tables, and the table is all that differs: every call is
+-- answered alike, and where no record is joined to another the numbers are the same. Assumes nothing.
+use Prim.Native.Nat.{ℕ, _*_, _+_}
+use mathlib.Core.Path.{_≡_, refl, sym, ap, _∙_}
+use mathlib.Core.Bool.{Bool, true, false}
+use mathlib.Core.List.{List, [], _∷_}
+use mathlib.Core.Option.{Option, none, some}
+use lib.Dec.{ltb}
+use lib.ListN.{length}
+use lib.Ieee.{Float, nan}
+use Rattle.lists.specs.Lists.{All}
+use Rattle.answers.specs.Limits.{mostComponents, mostNumbers}
+use Rattle.answers.specs.Told.{told}
+use Rattle.answers.specs.declared.Answer.the-variants.{Wrote}
+use Rattle.answers.specs.declared.Refusal.the-variants.{Components, Length, Room}
+use Rattle.answers.specs.Outcome.{Outcome, refuseIf, fitted, tells}
+use Rattle.decode.specs.Flag.{flagOf}
+use Rattle.colour.specs.Colour.{colourRow}
+use Rattle.rules.specs.Patches.{Patch, Piece, Table, sides, listSides, mesh}
+use Rattle.rules.specs.Meshes.{pieces, patches, patchMesh}
+use Rattle.rules.specs.Properties.{Fits}
+use Rattle.rules.proofs.Patches.{mesh-more, tables-count-equal}
+use Rattle.rules.proofs.Tables.{sides-fit}
+use Rattle.rules.proofs.Rows.{length-patchMesh}
+use Rattle.meshes.specs.Outcomes.{built, listed67, build7}
+use Rattle.meshes.proofs.ListedPatches.{colour-sized}
+
+module _ (vs : List Float) (n : ℕ) where
+  -- equally many patches
+  pub list-counts-equal : listed67 listSides 12 n vs .count ≡ listed67 sides 12 n vs .count
+  unfolding listed67 patches
+  list-counts-equal = tables-count-equal (pieces nan flagOf 12 n vs)
+
+  length-numbers : (T : Table) → All (Fits 16) T → length (listed67 T 12 n vs .numbers) ≡ listed67 T 12 n vs .count * (16 * 2 + 4 * (8 + n))
+  unfolding listed67
+  length-numbers T fit = length-patchMesh nan (λ (point : List Float). point) colourRow 2 (8 + n) n (λ x h. h) (colour-sized vs 12 n) T flagOf 12 fit vs
+
+  -- which take equally many places
+  pub list-lengths-equal : length (listed67 listSides 12 n vs .numbers) ≡ length (listed67 sides 12 n vs .numbers)
+  list-lengths-equal =
+      length-numbers listSides (sides-fit .2)
+      ∙ ap (λ (k : ℕ). k * (16 * 2 + 4 * (8 + n))) list-counts-equal
+      ∙ sym (length-numbers sides (sides-fit .1))
+
+  told-alike : (a b c : Bool) (k m : ℕ) (xs ys : List Float) → k ≡ m
+      → tells (refuseIf a Components (refuseIf b Length (refuseIf c Room (Outcome.wrote k xs)))) ≡ tells (refuseIf a Components (refuseIf b Length (refuseIf c Room (Outcome.wrote m ys))))
+  told-alike true b c k m xs ys e = refl
+  told-alike false true c k m xs ys e = refl
+  told-alike false false true k m xs ys e = refl
+  told-alike false false false k m xs ys e = ap (λ (j : ℕ). told (Wrote j)) e
+
+  -- so both readings of the Type 7 list answer every call alike
+  pub type7-lists-tell-alike : (room : ℕ) → tells (build7 listSides vs n room) ≡ tells (build7 sides vs n room)
+  unfolding built fitted
+  type7-lists-tell-alike room =
+      rw list-lengths-equal
+      (told-alike (ltb mostComponents n) (ltb mostNumbers (length vs)) (ltb room (length (listed67 sides 12 n vs .numbers))) _ _ _ _ list-counts-equal)
+
+-- where every flag is 0, no side is taken over
+new-alike : {P C : Type 0} (T U : Table) (b : Option (Patch P C)) (qs : List (Piece P C)) → All (λ (q : Piece P C). q .flag ≡ 0) qs
+    → mesh T b qs ≡ mesh U b qs
+unfolding mesh
+new-alike T U b [] a = refl
+new-alike T U b (q ∷ qs) a =
+    mesh-more T b q qs (q .body) (rw (a .0))
+    ∙ ap (λ (ps : List (Patch _ _)). q .body ∷ ps) (new-alike T U (some (q .body)) qs (a .1))
+    ∙ sym (mesh-more U b q qs (q .body) (rw (a .0)))
+
+pub type7-lists-agree-on-new-patches : (vs : List Float) (n : ℕ) → All (λ (q : Piece (List Float) (List Float)). q .flag ≡ 0) (pieces nan flagOf 12 n vs)
+    → listed67 listSides 12 n vs ≡ listed67 sides 12 n vs
+unfolding listed67 patchMesh patches
+type7-lists-agree-on-new-patches vs n a = rw (new-alike listSides sides none (pieces nan flagOf 12 n vs) a)

@@ -1,0 +1,8 @@
+pub mod Found
+pub mod Tables
+pub mod Records
+pub mod NextPatch
+pub mod Walk
+pub mod Copying
+pub mod Placing
+pub mod Starting

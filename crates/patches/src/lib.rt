@@ -1,0 +1,186 @@
+// The readers and builders of Types 6 and 7, the Coons and the tensor-product patch mesh. One code serves both types, both readings, and both
+// sources of records: bits, and a list of numbers.
+ghost use mathlib.Core.Path.{_≡_};
+ghost use lib.ListN.{length};
+ghost use Prim.Native.Nat.{_+_};
+ghost use Rattle.lists.specs.Lists.{All};
+ghost use Rattle.answers.specs.Outcome.{Done};
+ghost use Rattle.rules.specs.Patches.{sides, listSides};
+ghost use Rattle.rules.specs.Properties.{Fits};
+ghost use Rattle.meshes.specs.Outcomes.{parse6, parse7, build6, build7};
+ghost use Rattle.patches.specs.Forms.{ownOf, tableOf, parsedForm, builtForm};
+use crate::finding::Mesh;
+use crate::sides::Sides;
+use answers::Answer;
+use answers::Refusal;
+use records::layout::FlagWidth;
+
+mod finding;
+mod sides;
+mod writing;
+
+// Coons patches are Type 6, tensor-product patches are Type 7.
+enum Form {
+    Coons,
+    Tensor,
+}
+
+// How many points a joined patch has of its own.
+fn own_points(form: Form) -> usize
+    ensures { λ r. ⌜ r ≡ ownOf form ⌝ }
+{
+    match form {
+        Form::Coons => 8,
+        Form::Tensor => 12,
+    }
+}
+
+fn parse_patches(
+    data: &[u8],
+    coord: usize,
+    comp: usize,
+    flag: usize,
+    decode: &[f64],
+    n: usize,
+    form: Form,
+    out: &mut [f64],
+) -> Answer
+    ensures { λ r. ⌜ Done (parsedForm form (now («data» .entry)) coord comp flag (now (decode .entry)) n (length (now (out .entry)))) (now (out .entry)) r (now (out .exit)) ⌝ }
+{
+    if !records::layout::mesh_layout_is_readable(coord, comp, FlagWidth::Bits(flag), decode.len()) {
+        return Answer::Refused(Refusal::Layout);
+    }
+    if n > 32 {
+        return Answer::Refused(Refusal::Components);
+    }
+    if data.len() > 16777216 {
+        return Answer::Refused(Refusal::Length);
+    }
+    let mut mins = [0.0; 34];
+    let mut scales = [0.0; 34];
+    rows::fill_ranges(decode, coord, comp, &mut mins, &mut scales);
+    let mesh = Mesh {
+        listed: false,
+        flag,
+        coord,
+        comp,
+        own: own_points(form),
+        n,
+        limit: 8 * data.len(),
+    };
+    // and no list where they stand in bits: Decode's entries stand in for one
+    writing::patches(data, decode, mesh, &mins, &scales, Sides::Border, out)
+}
+
+fn build_patches(values: &[f64], n: usize, form: Form, sides: Sides, out: &mut [f64]) -> Answer
+    requires { ⌜ All (Fits (4 + ownOf form)) (tableOf sides) ⌝ }
+    ensures { λ r. ⌜ Done (builtForm form sides (now (values .entry)) n (length (now (out .entry)))) (now (out .entry)) r (now (out .exit)) ⌝ }
+{
+    if n > 32 {
+        return Answer::Refused(Refusal::Components);
+    }
+    if values.len() > 1048576 {
+        return Answer::Refused(Refusal::Length);
+    }
+    // no bits and no ranges are looked at where the records stand in a list
+    let data = [0u8; 1];
+    let ranges = [0.0; 34];
+    let mesh = Mesh {
+        listed: true,
+        flag: 1,
+        coord: 1,
+        comp: 1,
+        own: own_points(form),
+        n,
+        limit: values.len(),
+    };
+    writing::patches(&data, values, mesh, &ranges, &ranges, sides, out)
+}
+
+// ---- from bytes
+
+pub fn parse_type6_patches(
+    data: &[u8],
+    coord: usize,
+    comp: usize,
+    flag: usize,
+    decode: &[f64],
+    n: usize,
+    out: &mut [f64],
+) -> Answer
+    ensures { λ r. ⌜ Done (parse6 sides (now («data» .entry)) coord comp flag (now (decode .entry)) n (length (now (out .entry)))) (now (out .entry)) r (now (out .exit)) ⌝ }
+{
+    parse_patches(data, coord, comp, flag, decode, n, Form::Coons, out)
+}
+
+pub fn parse_type7_patches(
+    data: &[u8],
+    coord: usize,
+    comp: usize,
+    flag: usize,
+    decode: &[f64],
+    n: usize,
+    out: &mut [f64],
+) -> Answer
+    ensures { λ r. ⌜ Done (parse7 sides (now («data» .entry)) coord comp flag (now (decode .entry)) n (length (now (out .entry)))) (now (out .entry)) r (now (out .exit)) ⌝ }
+{
+    parse_patches(data, coord, comp, flag, decode, n, Form::Tensor, out)
+}
+
+// The published reading of Types 6 and 7 in bytes is the ported one.
+
+pub fn published_type6_patches(
+    data: &[u8],
+    coord: usize,
+    comp: usize,
+    flag: usize,
+    decode: &[f64],
+    n: usize,
+    out: &mut [f64],
+) -> Answer
+    ensures { λ r. ⌜ Done (parse6 sides (now («data» .entry)) coord comp flag (now (decode .entry)) n (length (now (out .entry)))) (now (out .entry)) r (now (out .exit)) ⌝ }
+{
+    parse_patches(data, coord, comp, flag, decode, n, Form::Coons, out)
+}
+
+pub fn published_type7_patches(
+    data: &[u8],
+    coord: usize,
+    comp: usize,
+    flag: usize,
+    decode: &[f64],
+    n: usize,
+    out: &mut [f64],
+) -> Answer
+    ensures { λ r. ⌜ Done (parse7 sides (now («data» .entry)) coord comp flag (now (decode .entry)) n (length (now (out .entry)))) (now (out .entry)) r (now (out .exit)) ⌝ }
+{
+    parse_patches(data, coord, comp, flag, decode, n, Form::Tensor, out)
+}
+
+// ---- from a list of numbers
+
+pub fn build_type6_from_array(values: &[f64], n: usize, out: &mut [f64]) -> Answer
+    ensures { λ r. ⌜ Done (build6 sides (now (values .entry)) n (length (now (out .entry)))) (now (out .entry)) r (now (out .exit)) ⌝ }
+{
+    build_patches(values, n, Form::Coons, Sides::Border, out)
+}
+
+pub fn build_type7_from_array(values: &[f64], n: usize, out: &mut [f64]) -> Answer
+    ensures { λ r. ⌜ Done (build7 listSides (now (values .entry)) n (length (now (out .entry)))) (now (out .entry)) r (now (out .exit)) ⌝ }
+{
+    build_patches(values, n, Form::Tensor, Sides::Grid, out)
+}
+
+// The published reading of the Type 6 list is the ported one; of the Type 7 list it takes the sides by the border.
+
+pub fn published_type6_from_array(values: &[f64], n: usize, out: &mut [f64]) -> Answer
+    ensures { λ r. ⌜ Done (build6 sides (now (values .entry)) n (length (now (out .entry)))) (now (out .entry)) r (now (out .exit)) ⌝ }
+{
+    build_patches(values, n, Form::Coons, Sides::Border, out)
+}
+
+pub fn published_type7_from_array(values: &[f64], n: usize, out: &mut [f64]) -> Answer
+    ensures { λ r. ⌜ Done (build7 sides (now (values .entry)) n (length (now (out .entry)))) (now (out .entry)) r (now (out .exit)) ⌝ }
+{
+    build_patches(values, n, Form::Tensor, Sides::Border, out)
+}

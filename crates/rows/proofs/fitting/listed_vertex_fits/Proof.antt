@@ -1,0 +1,43 @@
+-- `rows::fitting::listed_vertex_fits` meets its contract: one test after the other. Assumes nothing.
+use borrow.Author.Needs.{needs}
+use borrow.Author.Tests.{le-leb, lt-leb}
+use Rattle.rows.specs.Placing.{listedVertexFits}
+use Rattle.rows.proofs.fitting.listed_vertex_fits.Statement.{statement}
+use Rattle.rows.proofs.fitting.listed_vertex_fits.Tie as tie
+
+add-within : tie.Need-add-within
+add-within c = search needs
+
+within-requires : tie.Need-within-requires
+within-requires c κs = search needs
+
+add-within-2 : tie.Need-add-within-2
+add-within-2 c = search needs
+
+within-requires-2 : tie.Need-within-requires-2
+within-requires-2 c κs = search needs
+
+returns : tie.Need-returns
+unfolding listedVertexFits
+returns c =
+    rw (le-leb _ _ (c .before .before .before .if1 .taken), ← c .before .before .within .ensures, c .before .if2 .taken) (c .within2 .ensures)
+
+returns-2 : tie.Need-returns-2
+unfolding listedVertexFits
+returns-2 c = rw (le-leb _ _ (c .before .before .if1 .taken), ← c .before .within .ensures, c .if2 .left)
+
+returns-3 : tie.Need-returns-3
+unfolding listedVertexFits
+returns-3 c = rw (lt-leb _ _ (c .if1 .left))
+
+pub listed-vertex-fits-spec : {M : Type 1} → statement M
+listed-vertex-fits-spec =
+    tie.close
+    (tie.spec
+    add-within
+    within-requires
+    add-within-2
+    within-requires-2
+    returns
+    returns-2
+    returns-3)
