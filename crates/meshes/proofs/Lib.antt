@@ -4,3 +4,9 @@ pub mod ListedPatches
 pub mod ReadPatches
 pub mod PatchRanges
 pub mod PatchReadings
+pub mod Parts
+pub mod RawVertices
+pub mod Decoding
+pub mod Endings
+pub mod TriangleMeshes
+pub mod TriangleReadings

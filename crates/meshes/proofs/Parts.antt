@@ -1,0 +1,64 @@
+-- Pieces of the same length side by side: the first apart, and a part of one of them found again. Assumes nothing.
+use Prim.Native.Nat.{ℕ, zero, suc, _+_, _*_, _/_, _≤_, _<_}
+use mathlib.Core.Path.{_≡_, refl, sym, ap, _∙_}
+use mathlib.Core.List.{List, [], _∷_, _++_, append-assoc, append-nil}
+use native.Mathlib.Nat.{lt-of-not-le, add-zero, add-suc, add-assoc, mul-div-cancel}
+use native.Mathlib.Decide.{decLe}
+use native.Mathlib.Omega.{arith}
+use lib.ListN.{length, getD, List·getD-append}
+use lib.Seq.{getD-append-add}
+use Rattle.lists.specs.Lists.{joined, part}
+use Rattle.lists.proofs.Pieces.{joined-same, length-joined}
+
+module _ {A : Type 0} where
+  pub joined-first : (k : ℕ) (f : ℕ → List A) → joined (suc k) f ≡ f 0 ++ joined k (λ (i : ℕ). f (suc i))
+  unfolding joined
+  joined-first zero f = sym (append-nil (f 0))
+  joined-first (suc k) f = rw (joined-first k f, append-assoc)
+
+  -- a part of the second of two lists, or of the first
+  pub part-second : (d : A) (xs ys : List A) (from k : ℕ) → part d (xs ++ ys) (length xs + from) k ≡ part d ys from k
+  unfolding part
+  part-second d xs ys from k =
+      joined-same k _ _ (λ j b. ap (λ (v : A). v ∷ []) (rw (add-assoc (length xs) from j) (getD-append-add xs ys (from + j) d)))
+
+  pub part-first : (d : A) (xs ys : List A) (from k : ℕ) → from + k ≤ length xs → part d (xs ++ ys) from k ≡ part d xs from k
+  unfolding part
+  part-first d xs ys from k h =
+      joined-same k _ _ (λ j b. ap (λ (v : A). v ∷ []) (List·getD-append xs ys d (from + j) (omega arith)))
+
+  -- of k pieces of m elements each, a part of piece i
+  pub part-of-piece : (d : A) (k m : ℕ) (f : ℕ → List A) → ((i : ℕ) → length (f i) ≡ m) → (ys : List A) (i from size : ℕ) → i < k → from + size ≤ m
+      → part d (joined k f ++ ys) (i * m + from) size ≡ part d (f i) from size
+  unfolding joined
+  part-of-piece d zero m f sized ys i from size h w = absurd (omega arith)
+  part-of-piece d (suc k) m f sized ys i from size h w =
+      rw append-assoc (by (decLe k i) (λ g. part-of-piece d k m f sized (f k ++ ys) i from size g w))
+    where
+      by : Dec (k ≤ i) → (i < k → part d (joined k f ++ (f k ++ ys)) (i * m + from) size ≡ part d (f i) from size)
+          → part d (joined k f ++ (f k ++ ys)) (i * m + from) size ≡ part d (f i) from size
+      by (no g) rest = rest (lt-of-not-le g)
+      by (yes g) rest =
+          let e : i ≡ k = omega arith in
+          rw (e, ← (length-joined k m f sized), part-second) (part-first d (f k) ys from size (rw (sized k) w))
+
+  -- the first element of piece i
+  pub first-of-piece : (d : A) (k m : ℕ) (f : ℕ → List A) → ((i : ℕ) → length (f i) ≡ m) → (ys : List A) (i : ℕ) → i < k → 1 ≤ m
+      → getD (joined k f ++ ys) (i * m) d ≡ getD (f i) 0 d
+  first-of-piece d k m f sized ys i h w =
+      let e : part d (joined k f ++ ys) (i * m + 0) 1 ≡ part d (f i) 0 1 = part-of-piece d k m f sized ys i 0 1 h w in
+      let n : i * m + 0 + 0 ≡ i * m = omega arith in
+      rw n at (heads (joined k f ++ ys) (f i) (i * m + 0) e)
+    where
+      heads : (xs zs : List A) (from : ℕ) → part d xs from 1 ≡ part d zs 0 1 → getD xs (from + 0) d ≡ getD zs 0 d
+      heads xs zs from e = unfold part in unfold joined in ap (λ (l : List A). getD l 0 d) e
+
+  -- two parts side by side
+  pub part-then : (d : A) (l : List A) (from j k : ℕ) → part d l from (j + k) ≡ part d l from j ++ part d l (from + j) k
+  unfolding part joined
+  part-then d l from j zero = rw (add-zero j, append-nil)
+  part-then d l from j (suc k) = rw (add-suc j k, part-then d l from j k, append-assoc, add-assoc)
+
+  -- how many pieces there are
+  pub count-pieces : (k m : ℕ) (f : ℕ → List A) → ((i : ℕ) → length (f i) ≡ m) → 1 ≤ m → length (joined k f) / m ≡ k
+  count-pieces k m f sized h = rw (length-joined k m f sized) (mul-div-cancel k h)

@@ -1,0 +1,5 @@
+pub mod Sources
+pub mod Counting
+pub mod Writing
+pub mod Cells
+pub mod Ends

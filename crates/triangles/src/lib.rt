@@ -1,0 +1,200 @@
+// The readers and builders of Types 4 and 5, the free-form and the lattice-form triangle mesh. One code serves both sources of vertices, bits and a
+// list of numbers, and both readings.
+ghost use mathlib.Core.Path.{_≡_};
+ghost use mathlib.Core.Bool.{false};
+ghost use mathlib.Core.List.{[]};
+ghost use mathlib.Core.Option.{none};
+ghost use lib.ListN.{length};
+ghost use Rattle.answers.specs.Outcome.{Done};
+ghost use Rattle.rules.specs.Triangles.{triangleBefore, triangles};
+ghost use Rattle.rules.specs.Ported.{binaryReader, listBuilder};
+ghost use Rattle.meshes.specs.Outcomes.{parse4, parse5, build4, build5};
+ghost use Rattle.triangles.specs.Sources.{ruleOf};
+use crate::free_form::free_form;
+use crate::lattice_form::lattice_form;
+use crate::vertices::source_of_bits;
+use crate::vertices::source_of_list;
+use answers::Answer;
+use answers::Refusal;
+use records::layout::FlagWidth;
+use records::layout::mesh_layout_is_readable;
+
+mod free_form;
+mod lattice_form;
+mod vertices;
+
+// ---- from bits
+
+fn read_type4(
+    data: &[u8],
+    coord: usize,
+    comp: usize,
+    flag: usize,
+    decode: &[f64],
+    n: usize,
+    out: &mut [f64],
+) -> Answer
+    ensures { λ r. ⌜ Done (parse4 (triangles triangleBefore) (now («data» .entry)) coord comp flag (now (decode .entry)) n (length (now (out .entry)))) (now (out .entry)) r (now (out .exit)) ⌝ }
+{
+    if !mesh_layout_is_readable(coord, comp, FlagWidth::Bits(flag), decode.len()) {
+        return Answer::Refused(Refusal::Layout);
+    }
+    if n > 32 {
+        return Answer::Refused(Refusal::Components);
+    }
+    if data.len() > 16777216 {
+        return Answer::Refused(Refusal::Length);
+    }
+    let source = source_of_bits(data, coord, comp, flag, n);
+    let mut mins = [0.0f64; 34];
+    let mut scales = [0.0f64; 34];
+    rows::fill_ranges(decode, coord, comp, &mut mins, &mut scales);
+    free_form(data, &decode[0..0], source, &mins, &scales, false, out)
+}
+
+fn read_type5(
+    data: &[u8],
+    coord: usize,
+    comp: usize,
+    decode: &[f64],
+    n: usize,
+    row: usize,
+    out: &mut [f64],
+) -> Answer
+    ensures { λ r. ⌜ Done (parse5 (now («data» .entry)) coord comp (now (decode .entry)) n row (length (now (out .entry)))) (now (out .entry)) r (now (out .exit)) ⌝ }
+{
+    if !mesh_layout_is_readable(coord, comp, FlagWidth::Absent, decode.len()) {
+        return Answer::Refused(Refusal::Layout);
+    }
+    if n > 32 {
+        return Answer::Refused(Refusal::Components);
+    }
+    if data.len() > 16777216 {
+        return Answer::Refused(Refusal::Length);
+    }
+    let source = source_of_bits(data, coord, comp, 0, n);
+    let mut mins = [0.0f64; 34];
+    let mut scales = [0.0f64; 34];
+    rows::fill_ranges(decode, coord, comp, &mut mins, &mut scales);
+    lattice_form(data, &decode[0..0], source, &mins, &scales, row, out)
+}
+
+// The Type 4 reader of 000.
+pub fn parse_type4_mesh(
+    data: &[u8],
+    coord: usize,
+    comp: usize,
+    flag: usize,
+    decode: &[f64],
+    n: usize,
+    out: &mut [f64],
+) -> Answer
+    ensures { λ r. ⌜ Done (parse4 (binaryReader none 0) (now («data» .entry)) coord comp flag (now (decode .entry)) n (length (now (out .entry)))) (now (out .entry)) r (now (out .exit)) ⌝ }
+{
+    read_type4(data, coord, comp, flag, decode, n, out)
+}
+
+// Type 4 as ISO 32000-1, 8.7.4.5.5, has it: the same triangles.
+pub fn published_type4_mesh(
+    data: &[u8],
+    coord: usize,
+    comp: usize,
+    flag: usize,
+    decode: &[f64],
+    n: usize,
+    out: &mut [f64],
+) -> Answer
+    ensures { λ r. ⌜ Done (parse4 (triangles triangleBefore) (now («data» .entry)) coord comp flag (now (decode .entry)) n (length (now (out .entry)))) (now (out .entry)) r (now (out .exit)) ⌝ }
+{
+    read_type4(data, coord, comp, flag, decode, n, out)
+}
+
+// The Type 5 reader of 000.
+pub fn parse_type5_mesh(
+    data: &[u8],
+    coord: usize,
+    comp: usize,
+    decode: &[f64],
+    n: usize,
+    row: usize,
+    out: &mut [f64],
+) -> Answer
+    ensures { λ r. ⌜ Done (parse5 (now («data» .entry)) coord comp (now (decode .entry)) n row (length (now (out .entry)))) (now (out .entry)) r (now (out .exit)) ⌝ }
+{
+    read_type5(data, coord, comp, decode, n, row, out)
+}
+
+// Type 5 as ISO 32000-1, 8.7.4.5.6, has it: the same triangles.
+pub fn published_type5_mesh(
+    data: &[u8],
+    coord: usize,
+    comp: usize,
+    decode: &[f64],
+    n: usize,
+    row: usize,
+    out: &mut [f64],
+) -> Answer
+    ensures { λ r. ⌜ Done (parse5 (now («data» .entry)) coord comp (now (decode .entry)) n row (length (now (out .entry)))) (now (out .entry)) r (now (out .exit)) ⌝ }
+{
+    read_type5(data, coord, comp, decode, n, row, out)
+}
+
+// ---- from a list of numbers
+
+fn build_type4(values: &[f64], n: usize, last_three: bool, out: &mut [f64]) -> Answer
+    ensures { λ r. ⌜ Done (build4 (triangles (ruleOf «last_three»)) (now (values .entry)) n (length (now (out .entry)))) (now (out .entry)) r (now (out .exit)) ⌝ }
+{
+    if n > 32 {
+        return Answer::Refused(Refusal::Components);
+    }
+    if values.len() > 1048576 {
+        return Answer::Refused(Refusal::Length);
+    }
+    let source = source_of_list(values, 1, n);
+    let none = [0u8; 1];
+    let zeros = [0.0f64; 34];
+    free_form(&none, values, source, &zeros, &zeros, last_three, out)
+}
+
+fn build_type5(values: &[f64], n: usize, row: usize, out: &mut [f64]) -> Answer
+    ensures { λ r. ⌜ Done (build5 (now (values .entry)) n row (length (now (out .entry)))) (now (out .entry)) r (now (out .exit)) ⌝ }
+{
+    if n > 32 {
+        return Answer::Refused(Refusal::Components);
+    }
+    if values.len() > 1048576 {
+        return Answer::Refused(Refusal::Length);
+    }
+    let source = source_of_list(values, 0, n);
+    let none = [0u8; 1];
+    let zeros = [0.0f64; 34];
+    lattice_form(&none, values, source, &zeros, &zeros, row, out)
+}
+
+// The Type 4 builder of 000: it goes on from the last three vertices that it kept.
+pub fn build_type4_from_array(values: &[f64], n: usize, out: &mut [f64]) -> Answer
+    ensures { λ r. ⌜ Done (build4 (listBuilder [] 0) (now (values .entry)) n (length (now (out .entry)))) (now (out .entry)) r (now (out .exit)) ⌝ }
+{
+    build_type4(values, n, true, out)
+}
+
+// The flag rules of ISO 32000-1, 8.7.4.5.5, read over the list: it goes on from the triangle before.
+pub fn published_type4_from_array(values: &[f64], n: usize, out: &mut [f64]) -> Answer
+    ensures { λ r. ⌜ Done (build4 (triangles triangleBefore) (now (values .entry)) n (length (now (out .entry)))) (now (out .entry)) r (now (out .exit)) ⌝ }
+{
+    build_type4(values, n, false, out)
+}
+
+// The Type 5 builder of 000.
+pub fn build_type5_from_array(values: &[f64], n: usize, row: usize, out: &mut [f64]) -> Answer
+    ensures { λ r. ⌜ Done (build5 (now (values .entry)) n row (length (now (out .entry)))) (now (out .entry)) r (now (out .exit)) ⌝ }
+{
+    build_type5(values, n, row, out)
+}
+
+// ISO 32000-1, 8.7.4.5.6, read over the list: the same triangles.
+pub fn published_type5_from_array(values: &[f64], n: usize, row: usize, out: &mut [f64]) -> Answer
+    ensures { λ r. ⌜ Done (build5 (now (values .entry)) n row (length (now (out .entry)))) (now (out .entry)) r (now (out .exit)) ⌝ }
+{
+    build_type5(values, n, row, out)
+}
