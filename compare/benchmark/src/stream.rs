@@ -79,3 +79,22 @@ pub fn bytes(kind: Kind, l: Layout, size: usize) -> Vec<u8> {
     }
     out
 }
+
+/// As many whole records as fit into so many numbers: flags, then coordinates within 0 to 100 and components within 0 to 1.
+pub fn numbers(kind: Kind, components: usize, size: usize) -> Vec<f64> {
+    let mut out = Vec::with_capacity(size);
+    let mut random = Generator::new();
+    let mut unit = || (random.next() >> 11) as f64 / (1u64 << 53) as f64;
+    for i in 0.. {
+        let f = flag(kind, i);
+        let (coords, colours) = shape(kind, f);
+        let flags = usize::from(kind != Kind::Type5);
+        if out.len() + flags + coords + colours * components > size {
+            break;
+        }
+        out.extend(std::iter::repeat_n(f as f64, flags));
+        out.extend((0..coords).map(|_| 100.0 * unit()));
+        out.extend((0..colours * components).map(|_| unit()));
+    }
+    out
+}

@@ -78,40 +78,45 @@ impl Told {
     }
 }
 
-type RawRead =
-    unsafe extern "C" fn(*const u8, usize, usize, usize, usize, usize, *mut u32, usize) -> Told;
-type RawReadLattice =
-    unsafe extern "C" fn(*const u8, usize, usize, usize, usize, *mut u32, usize) -> Told;
-type RawWrite =
-    unsafe extern "C" fn(*const u32, usize, usize, usize, usize, usize, *mut u8, usize) -> Told;
-type RawWriteLattice =
-    unsafe extern "C" fn(*const u32, usize, usize, usize, usize, *mut u8, usize) -> Told;
-
-/// Declares functions of the archive that share a signature.
+/// Declares functions of the archive that share a signature, and a type for that signature.
 macro_rules! archive {
-    ($($name:ident),+: $parameters:tt) => {
+    ($signature:ident $parameters:tt: $($name:ident),+) => {
+        type $signature = unsafe extern "C" fn $parameters -> Told;
         extern "C" {
             $(fn $name $parameters -> Told;)+
         }
     };
 }
 
-archive!(mesh_raw_read_type4, mesh_raw_read_type6, mesh_raw_read_type7:
-    (data: *const u8, data_len: usize, coord: usize, comp: usize, flag: usize, n: usize,
-    out: *mut u32, out_len: usize));
-archive!(mesh_raw_read_type5:
-    (data: *const u8, data_len: usize, coord: usize, comp: usize, n: usize, out: *mut u32, out_len: usize));
-archive!(mesh_raw_write_type4, mesh_raw_write_type6, mesh_raw_write_type7:
-    (numbers: *const u32, numbers_len: usize, coord: usize, comp: usize, flag: usize, n: usize,
-    out: *mut u8, out_len: usize));
-archive!(mesh_raw_write_type5:
-    (numbers: *const u32, numbers_len: usize, coord: usize, comp: usize, n: usize,
-    out: *mut u8, out_len: usize));
+archive!(Parse(data: *const u8, data_len: usize, coord: usize, comp: usize, flag: usize,
+    decode: *const f64, decode_len: usize, n: usize, out: *mut f64, out_len: usize):
+    mesh_parse_type4, mesh_parse_type6, mesh_parse_type7,
+    mesh_published_type4, mesh_published_type6, mesh_published_type7);
+archive!(ParseLattice(data: *const u8, data_len: usize, coord: usize, comp: usize,
+    decode: *const f64, decode_len: usize, n: usize, row: usize, out: *mut f64, out_len: usize):
+    mesh_parse_type5, mesh_published_type5);
+archive!(Build(values: *const f64, values_len: usize, n: usize, out: *mut f64, out_len: usize):
+    mesh_build_type4, mesh_build_type6, mesh_build_type7,
+    mesh_build_published_type4, mesh_build_published_type6, mesh_build_published_type7);
+archive!(BuildLattice(values: *const f64, values_len: usize, n: usize, row: usize, out: *mut f64, out_len: usize):
+    mesh_build_type5, mesh_build_published_type5);
+archive!(RawRead(data: *const u8, data_len: usize, coord: usize, comp: usize, flag: usize, n: usize,
+    out: *mut u32, out_len: usize):
+    mesh_raw_read_type4, mesh_raw_read_type6, mesh_raw_read_type7);
+archive!(RawReadLattice(data: *const u8, data_len: usize, coord: usize, comp: usize, n: usize,
+    out: *mut u32, out_len: usize):
+    mesh_raw_read_type5);
+archive!(RawWrite(numbers: *const u32, numbers_len: usize, coord: usize, comp: usize, flag: usize, n: usize,
+    out: *mut u8, out_len: usize):
+    mesh_raw_write_type4, mesh_raw_write_type6, mesh_raw_write_type7);
+archive!(RawWriteLattice(numbers: *const u32, numbers_len: usize, coord: usize, comp: usize, n: usize,
+    out: *mut u8, out_len: usize):
+    mesh_raw_write_type5);
 
 // A function of the archive asks that each pointer is valid for its length while the call lasts, and that the output overlaps no input. A
 // slice and a `&mut` slice are just that, so every call below is sound.
 
-/// The four mesh types.
+/// The four mesh types, for the raw readers and writers, which take no row length.
 #[derive(Clone, Copy, Debug, PartialEq, Eq)]
 pub enum Kind {
     Type4,
@@ -120,28 +125,89 @@ pub enum Kind {
     Type7,
 }
 
+/// The four mesh types, with the row length that Type 5 alone has.
+#[derive(Clone, Copy, Debug, PartialEq, Eq)]
+pub enum MeshKind {
+    Type4,
+    Type5 { row_length: usize },
+    Type6,
+    Type7,
+}
+
+/// Whose rules are followed: those of the original Rust, or those of ISO 32000-1.
+#[derive(Clone, Copy, Debug, PartialEq, Eq)]
+pub enum Reading {
+    Ported,
+    Published,
+}
+
+/// Reads a mesh from bytes into rows of numbers. Answers how many triangles or patches.
+pub fn parse(
+    reading: Reading,
+    kind: MeshKind,
+    data: &[u8],
+    l: Layout,
+    decode: &[f64],
+    out: &mut [f64],
+) -> Result<usize, Refusal> {
+    let (d, dn, o, on) = (data.as_ptr(), data.len(), out.as_mut_ptr(), out.len());
+    let (e, en) = (decode.as_ptr(), decode.len());
+    let (x, c, n) = (l.coordinate, l.component, l.components);
+    let flagged = |f: Parse| unsafe { f(d, dn, x, c, l.flag, e, en, n, o, on) };
+    let lattice = |f: ParseLattice, row: usize| unsafe { f(d, dn, x, c, e, en, n, row, o, on) };
+    match (reading, kind) {
+        (Reading::Ported, MeshKind::Type4) => flagged(mesh_parse_type4),
+        (Reading::Ported, MeshKind::Type5 { row_length }) => lattice(mesh_parse_type5, row_length),
+        (Reading::Ported, MeshKind::Type6) => flagged(mesh_parse_type6),
+        (Reading::Ported, MeshKind::Type7) => flagged(mesh_parse_type7),
+        (Reading::Published, MeshKind::Type4) => flagged(mesh_published_type4),
+        (Reading::Published, MeshKind::Type5 { row_length }) => {
+            lattice(mesh_published_type5, row_length)
+        }
+        (Reading::Published, MeshKind::Type6) => flagged(mesh_published_type6),
+        (Reading::Published, MeshKind::Type7) => flagged(mesh_published_type7),
+    }
+    .result()
+}
+
+/// Builds a mesh from a list of numbers into rows of numbers. Answers how many triangles or patches.
+pub fn build(
+    reading: Reading,
+    kind: MeshKind,
+    values: &[f64],
+    components: usize,
+    out: &mut [f64],
+) -> Result<usize, Refusal> {
+    let (v, vn, n) = (values.as_ptr(), values.len(), components);
+    let (o, on) = (out.as_mut_ptr(), out.len());
+    let flagged = |f: Build| unsafe { f(v, vn, n, o, on) };
+    let lattice = |f: BuildLattice, row: usize| unsafe { f(v, vn, n, row, o, on) };
+    match (reading, kind) {
+        (Reading::Ported, MeshKind::Type4) => flagged(mesh_build_type4),
+        (Reading::Ported, MeshKind::Type5 { row_length }) => lattice(mesh_build_type5, row_length),
+        (Reading::Ported, MeshKind::Type6) => flagged(mesh_build_type6),
+        (Reading::Ported, MeshKind::Type7) => flagged(mesh_build_type7),
+        (Reading::Published, MeshKind::Type4) => flagged(mesh_build_published_type4),
+        (Reading::Published, MeshKind::Type5 { row_length }) => {
+            lattice(mesh_build_published_type5, row_length)
+        }
+        (Reading::Published, MeshKind::Type6) => flagged(mesh_build_published_type6),
+        (Reading::Published, MeshKind::Type7) => flagged(mesh_build_published_type7),
+    }
+    .result()
+}
+
 /// Reads raw numbers, flags included, complete records only. Answers how many.
 pub fn raw_read(kind: Kind, data: &[u8], l: Layout, out: &mut [u32]) -> Result<usize, Refusal> {
     let (d, dn, o, on) = (data.as_ptr(), data.len(), out.as_mut_ptr(), out.len());
-    let lattice =
-        |f: RawReadLattice| unsafe { f(d, dn, l.coordinate, l.component, l.components, o, on) };
-    let other = |f: RawRead| unsafe {
-        f(
-            d,
-            dn,
-            l.coordinate,
-            l.component,
-            l.flag,
-            l.components,
-            o,
-            on,
-        )
-    };
+    let (x, c, n) = (l.coordinate, l.component, l.components);
+    let flagged = |f: RawRead| unsafe { f(d, dn, x, c, l.flag, n, o, on) };
+    let lattice = |f: RawReadLattice| unsafe { f(d, dn, x, c, n, o, on) };
     match kind {
-        Kind::Type4 => other(mesh_raw_read_type4),
+        Kind::Type4 => flagged(mesh_raw_read_type4),
         Kind::Type5 => lattice(mesh_raw_read_type5),
-        Kind::Type6 => other(mesh_raw_read_type6),
-        Kind::Type7 => other(mesh_raw_read_type7),
+        Kind::Type6 => flagged(mesh_raw_read_type6),
+        Kind::Type7 => flagged(mesh_raw_read_type7),
     }
     .result()
 }
@@ -149,25 +215,14 @@ pub fn raw_read(kind: Kind, data: &[u8], l: Layout, out: &mut [u32]) -> Result<u
 /// Packs raw numbers; the last byte is filled with zeros. Answers how many bytes.
 pub fn raw_write(kind: Kind, numbers: &[u32], l: Layout, out: &mut [u8]) -> Result<usize, Refusal> {
     let (d, dn, o, on) = (numbers.as_ptr(), numbers.len(), out.as_mut_ptr(), out.len());
-    let lattice =
-        |f: RawWriteLattice| unsafe { f(d, dn, l.coordinate, l.component, l.components, o, on) };
-    let other = |f: RawWrite| unsafe {
-        f(
-            d,
-            dn,
-            l.coordinate,
-            l.component,
-            l.flag,
-            l.components,
-            o,
-            on,
-        )
-    };
+    let (x, c, n) = (l.coordinate, l.component, l.components);
+    let flagged = |f: RawWrite| unsafe { f(d, dn, x, c, l.flag, n, o, on) };
+    let lattice = |f: RawWriteLattice| unsafe { f(d, dn, x, c, n, o, on) };
     match kind {
-        Kind::Type4 => other(mesh_raw_write_type4),
+        Kind::Type4 => flagged(mesh_raw_write_type4),
         Kind::Type5 => lattice(mesh_raw_write_type5),
-        Kind::Type6 => other(mesh_raw_write_type6),
-        Kind::Type7 => other(mesh_raw_write_type7),
+        Kind::Type6 => flagged(mesh_raw_write_type6),
+        Kind::Type7 => flagged(mesh_raw_write_type7),
     }
     .result()
 }
