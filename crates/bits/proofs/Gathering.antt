@@ -1,8 +1,8 @@
 -- Bytes put together into a number, and bits taken out of it. Assumes nothing.
 use Prim.Native.Nat.{ℕ, _+_, _-_, _*_, _/_, _%_, _^_, _≤_, _<_}
-use mathlib.Core.Path.{_≡_, refl, sym, ap, _∙_}
+use mathlib.Core.Path.{_≡_, refl, sym, ap, _∙_, subst}
 use mathlib.Core.List.{List, [], append-nil}
-use native.Mathlib.Nat.{add-zero, mul-add, one-mul, mod-eq-of-lt, mod-lt, div-one, lt-of-lt-of-le}
+use native.Mathlib.Nat.{add-zero, add-assoc, mul-add, one-mul, mod-eq-of-lt, mod-lt, div-one, lt-of-lt-of-le}
 use native.Mathlib.Numerals.{add-one}
 use native.Mathlib.Omega.{arith}
 use lib.ListN.{length, take, drop, getD, length-drop}
@@ -44,6 +44,12 @@ put-below w j k x y hx h hy = ap (λ (z : ℕ). bitOr z y) (shl-exact j k w hx h
 pub gathers-put : {s : List ℕ} {from : ℕ} (w a b : ℕ) {x y : ℕ} → 8 * a + 8 * b ≤ w → Gathers s from a x → Gathers s (from + a) b y
     → Gathers s from (a + b) (bitOr (x * 2 ^ (8 * b) % 2 ^ w) y)
 gathers-put w a b {x} {y} fits g h = rw (put-below w (8 * a) (8 * b) x y (g .small) fits (h .small)) (gathers-join a b g h)
+
+-- the byte at j after from, put above the k bytes after it in a number of 64 bits
+pub gathers-before : {s : List ℕ} (from j k : ℕ) {x y : ℕ} → 1 + k ≤ 8 → Gathers s (from + j) 1 x → Gathers s (from + (j + 1)) k y
+    → Gathers s (from + j) (1 + k) (bitOr (x * 2 ^ (8 * k) % 2 ^ 64) y)
+gathers-before {s} from j k {y = y} fits g h =
+    gathers-put 64 1 k (omega arith) g (subst (λ (i : ℕ). Gathers s i k y) (sym (add-assoc from j 1)) h)
 
 -- how the code takes the low n bits
 pub one-shl : (n : ℕ) → n ≤ 32 → 1 * 2 ^ n % 2 ^ 64 ≡ 2 ^ n

@@ -38,15 +38,15 @@ pub fn exhausted(data: &[u8], at: BitPos) -> bool
 
 // The bits of 1, 2, 3, 4 or 8 bytes from a place, as a number.
 
-fn one_byte(data: &[u8], from: BytePlace) -> u32
+fn one_byte(data: &[u8], from: BytePlace) -> u64
     requires { ⌜ from .0 + 1 ≤ length (now «data») ⌝ }
     ensures { λ r. ⌜ Gathers (now («data» .entry)) (from .0) 1 r ⌝ }
 {
     let i = from.0;
-    data[i] as u32
+    data[i] as u64
 }
 
-fn two_bytes(data: &[u8], from: BytePlace) -> u32
+fn two_bytes(data: &[u8], from: BytePlace) -> u64
     requires { ⌜ from .0 + 2 ≤ length (now «data») ⌝ }
     ensures { λ r. ⌜ Gathers (now («data» .entry)) (from .0) 2 r ⌝ }
 {
@@ -54,7 +54,7 @@ fn two_bytes(data: &[u8], from: BytePlace) -> u32
     (one_byte(data, from) << 8) | one_byte(data, BytePlace(i + 1))
 }
 
-fn three_bytes(data: &[u8], from: BytePlace) -> u32
+fn three_bytes(data: &[u8], from: BytePlace) -> u64
     requires { ⌜ from .0 + 3 ≤ length (now «data») ⌝ }
     ensures { λ r. ⌜ Gathers (now («data» .entry)) (from .0) 3 r ⌝ }
 {
@@ -62,7 +62,7 @@ fn three_bytes(data: &[u8], from: BytePlace) -> u32
     (two_bytes(data, from) << 8) | one_byte(data, BytePlace(i + 2))
 }
 
-fn four_bytes(data: &[u8], from: BytePlace) -> u32
+fn four_bytes(data: &[u8], from: BytePlace) -> u64
     requires { ⌜ from .0 + 4 ≤ length (now «data») ⌝ }
     ensures { λ r. ⌜ Gathers (now («data» .entry)) (from .0) 4 r ⌝ }
 {
@@ -70,14 +70,23 @@ fn four_bytes(data: &[u8], from: BytePlace) -> u32
     (two_bytes(data, from) << 16) | two_bytes(data, BytePlace(i + 2))
 }
 
+// Eight bytes in one go: each is put where it belongs, so that a machine can load them at once.
 fn eight_bytes(data: &[u8], from: BytePlace) -> u64
     requires { ⌜ from .0 + 8 ≤ length (now «data») ⌝ }
     ensures { λ r. ⌜ Gathers (now («data» .entry)) (from .0) 8 r ⌝ }
 {
     let i = from.0;
-    let high = four_bytes(data, from) as u64;
-    let low = four_bytes(data, BytePlace(i + 4)) as u64;
-    (high << 32) | low
+    let a = one_byte(data, from);
+    let b = one_byte(data, BytePlace(i + 1));
+    let c = one_byte(data, BytePlace(i + 2));
+    let d = one_byte(data, BytePlace(i + 3));
+    let e = one_byte(data, BytePlace(i + 4));
+    let f = one_byte(data, BytePlace(i + 5));
+    let g = one_byte(data, BytePlace(i + 6));
+    let h = one_byte(data, BytePlace(i + 7));
+    (a << 56)
+        | ((b << 48)
+            | ((c << 40) | ((d << 32) | ((e << 24) | ((f << 16) | ((g << 8) | h))))))
 }
 
 // The bits of up to five bytes from a place, as a number: for the last bytes of the data.
@@ -105,35 +114,36 @@ fn window(accum: u64, count: usize, offset: usize, n: usize) -> u32
     ((accum >> shift) & mask) as u32
 }
 
-// The n bits at an offset into the byte at a place, all of which exist: four shortcuts for whole bytes, and the general route.
+// The n bits at an offset into the byte at a place, all of which exist. Where eight bytes stand there, they are read at once; in the last bytes
+// there are four shortcuts for whole bytes, and the bytes one by one.
 fn field(data: &[u8], from: BytePlace, offset: usize, n: usize) -> u32
     requires { ⌜ (offset < 8) × (1 ≤ n) × (n ≤ 32) × (8 * (from .0) + (offset + n) ≤ 8 * length (now «data»)) ⌝ }
     ensures { λ r. ⌜ r ≡ fieldAt (now («data» .entry)) (8 * (from .0) + offset) n ⌝ }
 {
-    if offset == 0 {
-        if n == 8 {
-            return one_byte(data, from);
-        }
-        if n == 16 {
-            return two_bytes(data, from);
-        }
-        if n == 24 {
-            return three_bytes(data, from);
-        }
-        if n == 32 {
-            return four_bytes(data, from);
-        }
-    }
     let i = from.0;
     if 8 <= data.len() - i {
         return window(eight_bytes(data, from), 8, offset, n);
+    }
+    if offset == 0 {
+        if n == 8 {
+            return one_byte(data, from) as u32;
+        }
+        if n == 16 {
+            return two_bytes(data, from) as u32;
+        }
+        if n == 24 {
+            return three_bytes(data, from) as u32;
+        }
+        if n == 32 {
+            return four_bytes(data, from) as u32;
+        }
     }
     let count = (offset + n + 7) / 8;
     window(gather(data, from, count), count, offset, n)
 }
 
-// Reads n bits at a place: the number and the place after it, or the end. A read of 0 bits gives 0.
-pub fn read(data: &[u8], at: BitPos, n: usize) -> BitRead
+// Reads n bits at any place.
+fn read_anywhere(data: &[u8], at: BitPos, n: usize) -> BitRead
     ensures { λ r. ⌜ r ≡ readAt (now («data» .entry)) (at .0) n ⌝ }
 {
     if n == 0 {
@@ -157,4 +167,25 @@ pub fn read(data: &[u8], at: BitPos, n: usize) -> BitRead
         return BitRead::End; // not all bits exist
     }
     BitRead::Number(field(data, place, offset, n), BitPos(end))
+}
+
+// Reads n bits at a place: the number and the place after it, or the end. A read of 0 bits gives 0. The first test passes for all but the last
+// bytes, and is all that a compiler need put into a loop.
+pub fn read(data: &[u8], at: BitPos, n: usize) -> BitRead
+    ensures { λ r. ⌜ r ≡ readAt (now («data» .entry)) (at .0) n ⌝ }
+{
+    let p = at.0;
+    let place = byte_of(at);
+    let byte = place.0;
+    if n < 1 {
+        return read_anywhere(data, at, n);
+    }
+    if n <= 32 {
+        if byte + 8 <= data.len() {
+            if p <= 0x7fff_ffff_ffff_ffff {
+                return BitRead::Number(field(data, place, p % 8, n), BitPos(p + n));
+            }
+        }
+    }
+    read_anywhere(data, at, n)
 }

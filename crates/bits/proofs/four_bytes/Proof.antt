@@ -16,7 +16,7 @@ two-bytes-requires-2 : tie.Need-two-bytes-requires-2
 two-bytes-requires-2 c κs = search needs
 
 returns : tie.Need-returns
-returns c = gathers-put 32 2 2 (lit≤ tt) (c .before .two-bytes .ensures) (c .two-bytes2 .ensures)
+returns c = gathers-put 64 2 2 (lit≤ tt) (c .before .two-bytes .ensures) (c .two-bytes2 .ensures)
 
 pub four-bytes-spec : {M : Type 1} → statement M
 four-bytes-spec = tie.close (tie.spec two-bytes-requires add-t7 two-bytes-requires-2 returns)

@@ -16,7 +16,7 @@ one-byte-requires : tie.Need-one-byte-requires
 one-byte-requires c κs = search needs
 
 returns : tie.Need-returns
-returns c = gathers-put 32 2 1 (lit≤ tt) (c .before .two-bytes .ensures) (c .one-byte .ensures)
+returns c = gathers-put 64 2 1 (lit≤ tt) (c .before .two-bytes .ensures) (c .one-byte .ensures)
 
 pub three-bytes-spec : {M : Type 1} → statement M
 three-bytes-spec = tie.close (tie.spec two-bytes-requires add-t7 one-byte-requires returns)

@@ -16,7 +16,7 @@ one-byte-requires-2 : tie.Need-one-byte-requires-2
 one-byte-requires-2 c κs = search needs
 
 returns : tie.Need-returns
-returns c = gathers-put 32 1 1 (lit≤ tt) (c .before .one-byte .ensures) (c .one-byte2 .ensures)
+returns c = gathers-put 64 1 1 (lit≤ tt) (c .before .one-byte .ensures) (c .one-byte2 .ensures)
 
 pub two-bytes-spec : {M : Type 1} → statement M
 two-bytes-spec = tie.close (tie.spec one-byte-requires add-t7 one-byte-requires-2 returns)
