@@ -4,7 +4,7 @@ ghost use mathlib.Core.List.{[], _∷_};
 ghost use Prim.Native.Nat.{_+_, _≤_};
 ghost use lib.ListN.{length};
 ghost use Rattle.lists.specs.Writing.{Written};
-ghost use Rattle.colour.specs.Colour.{colourNumbers};
+ghost use Rattle.colour.specs.Colour.{colourNumbers, inkNumbers};
 use crate::DeviceColor;
 use crate::Inks;
 
@@ -27,6 +27,36 @@ pub fn write_four(out: &mut [f64], at: usize, a: f64, b: f64, c: f64, d: f64) ->
     write_two(out, p, c, d)
 }
 
+// The five numbers that tell a colour's inks.
+struct InkNumbers {
+    mark: f64,
+    c: f64,
+    m: f64,
+    y: f64,
+    k: f64,
+}
+
+fn ink_numbers(inks: Inks) -> InkNumbers
+    ensures { λ r. ⌜ r .mark ∷ r .c ∷ r .m ∷ r .y ∷ r .k ∷ [] ≡ inkNumbers inks ⌝ }
+{
+    match inks {
+        Inks::None => InkNumbers {
+            mark: 0.0,
+            c: 0.0,
+            m: 0.0,
+            y: 0.0,
+            k: 0.0,
+        },
+        Inks::Cmyk(c, m, y, k) => InkNumbers {
+            mark: 1.0,
+            c,
+            m,
+            y,
+            k,
+        },
+    }
+}
+
 // r, g, b, mark, c, m, y, k.
 pub fn write_eight(out: &mut [f64], at: usize, colour: DeviceColor) -> usize
     requires { ⌜ at + 8 ≤ length (now out) ⌝ }
@@ -34,16 +64,9 @@ pub fn write_eight(out: &mut [f64], at: usize, colour: DeviceColor) -> usize
     ensures { λ p. ⌜ Written (now (out .entry)) (now (out .exit)) at (colourNumbers colour) p ⌝ }
 {
     let inks = colour.inks;
-    match inks {
-        Inks::None => {
-            let p = write_four(out, at, colour.r, colour.g, colour.b, 0.0);
-            write_four(out, p, 0.0, 0.0, 0.0, 0.0)
-        }
-        Inks::Cmyk(c, m, y, k) => {
-            let p = write_four(out, at, colour.r, colour.g, colour.b, 1.0);
-            write_four(out, p, c, m, y, k)
-        }
-    }
+    let five = ink_numbers(inks);
+    let p = write_four(out, at, colour.r, colour.g, colour.b, five.mark);
+    write_four(out, p, five.c, five.m, five.y, five.k)
 }
 
 pub fn write_all(out: &mut [f64], at: usize, values: &[f64]) -> usize
