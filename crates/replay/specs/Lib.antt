@@ -1,0 +1,5 @@
+pub mod Fields
+pub mod Digest
+pub mod Calls
+pub mod Cases
+pub mod Tallies
