@@ -84,9 +84,7 @@ fn eight_bytes(data: &[u8], from: BytePlace) -> u64
     let f = one_byte(data, BytePlace(i + 5));
     let g = one_byte(data, BytePlace(i + 6));
     let h = one_byte(data, BytePlace(i + 7));
-    (a << 56)
-        | ((b << 48)
-            | ((c << 40) | ((d << 32) | ((e << 24) | ((f << 16) | ((g << 8) | h))))))
+    (a << 56) | ((b << 48) | ((c << 40) | ((d << 32) | ((e << 24) | ((f << 16) | ((g << 8) | h))))))
 }
 
 // The bits of up to five bytes from a place, as a number: for the last bytes of the data.
