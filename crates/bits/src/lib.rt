@@ -87,7 +87,7 @@ fn eight_bytes(data: &[u8], from: BytePlace) -> u64
     (a << 56) | ((b << 48) | ((c << 40) | ((d << 32) | ((e << 24) | ((f << 16) | ((g << 8) | h))))))
 }
 
-// The bits of up to five bytes from a place, as a number: for the last bytes of the data.
+// The bits of up to five bytes from a place, as a number.
 fn gather(data: &[u8], from: BytePlace, count: usize) -> u64
     requires { ⌜ (count ≤ 5) × (from .0 + count ≤ length (now «data»)) ⌝ }
     ensures { λ r. ⌜ Gathers (now («data» .entry)) (from .0) count r ⌝ }
@@ -112,16 +112,11 @@ fn window(accum: u64, count: usize, offset: usize, n: usize) -> u32
     ((accum >> shift) & mask) as u32
 }
 
-// The n bits at an offset into the byte at a place, all of which exist. Where eight bytes stand there, they are read at once; in the last bytes
-// there are four shortcuts for whole bytes, and the bytes one by one.
+// The n bits at an offset into the byte at a place, all of which exist: four shortcuts for whole bytes, and the bytes one by one.
 fn field(data: &[u8], from: BytePlace, offset: usize, n: usize) -> u32
     requires { ⌜ (offset < 8) × (1 ≤ n) × (n ≤ 32) × (8 * (from .0) + (offset + n) ≤ 8 * length (now «data»)) ⌝ }
     ensures { λ r. ⌜ r ≡ fieldAt (now («data» .entry)) (8 * (from .0) + offset) n ⌝ }
 {
-    let i = from.0;
-    if 8 <= data.len() - i {
-        return window(eight_bytes(data, from), 8, offset, n);
-    }
     if offset == 0 {
         if n == 8 {
             return one_byte(data, from) as u32;
@@ -140,8 +135,8 @@ fn field(data: &[u8], from: BytePlace, offset: usize, n: usize) -> u32
     window(gather(data, from, count), count, offset, n)
 }
 
-// Reads n bits at any place.
-fn read_anywhere(data: &[u8], at: BitPos, n: usize) -> BitRead
+// Reads n bits at a place, as `read` does, by a function that a compiler leaves whole: for a number that is read now and then.
+pub fn read_seldom(data: &[u8], at: BitPos, n: usize) -> BitRead
     ensures { λ r. ⌜ r ≡ readAt (now («data» .entry)) (at .0) n ⌝ }
 {
     if n == 0 {
@@ -167,23 +162,23 @@ fn read_anywhere(data: &[u8], at: BitPos, n: usize) -> BitRead
     BitRead::Number(field(data, place, offset, n), BitPos(end))
 }
 
-// Reads n bits at a place: the number and the place after it, or the end. A read of 0 bits gives 0. The first test passes for all but the last
-// bytes, and is all that a compiler need put into a loop.
+// Reads n bits at a place: the number and the place after it, or the end. A read of 0 bits gives 0. All but the last bytes are read eight at
+// once, which is little enough for a compiler to put into a loop.
 pub fn read(data: &[u8], at: BitPos, n: usize) -> BitRead
     ensures { λ r. ⌜ r ≡ readAt (now («data» .entry)) (at .0) n ⌝ }
 {
     let p = at.0;
     let place = byte_of(at);
     let byte = place.0;
-    if n < 1 {
-        return read_anywhere(data, at, n);
-    }
-    if n <= 32 {
-        if byte + 8 <= data.len() {
-            if p <= 0x7fff_ffff_ffff_ffff {
-                return BitRead::Number(field(data, place, p % 8, n), BitPos(p + n));
+    if 1 <= n {
+        if n <= 32 {
+            if byte + 8 <= data.len() {
+                if p <= 0x7fff_ffff_ffff_ffff {
+                    let number = window(eight_bytes(data, place), 8, p % 8, n);
+                    return BitRead::Number(number, BitPos(p + n));
+                }
             }
         }
     }
-    read_anywhere(data, at, n)
+    read_seldom(data, at, n)
 }

@@ -33,7 +33,7 @@ fn flag_at(data: &[u8], values: &[f64], mesh: Mesh, pos: usize) -> usize
     if mesh.listed {
         return decode::flag_of(values[pos]) as usize;
     }
-    let BitRead::Number(flag, _) = bits::read(data, BitPos(pos), mesh.flag) else {
+    let BitRead::Number(flag, _) = bits::read_seldom(data, BitPos(pos), mesh.flag) else {
         return 0;
     };
     flag as usize

@@ -7,29 +7,15 @@ use borrow.Author.Needs.{needs}
 use Rattle.bits.proofs.field.Statement.{statement}
 use Rattle.bits.proofs.field.Tie as tie
 
-sub-if1 : tie.Need-sub-if1
-sub-if1 c = search needs
-
-eight-bytes-requires : tie.Need-eight-bytes-requires
-eight-bytes-requires c κs = search needs
-
-window-requires : tie.Need-window-requires
-window-requires c κs = search needs
-
-returns : tie.Need-returns
-returns c =
-    let a = c .before .before .before .before .args in
-    c .window .ensures ∙ sym (gathers-window (a .offset) (a .n) (c .before .eight-bytes .ensures) (omega arith) (omega arith))
-
 one-byte-requires : tie.Need-one-byte-requires
 one-byte-requires c κs = search needs
 
 cast-result : tie.Need-cast-result
 cast-result c = search needs
 
-returns-2 : tie.Need-returns-2
-returns-2 c =
-    let a = c .before .before .before .before .before .args in
+returns : tie.Need-returns
+returns c =
+    let a = c .before .before .before .before .args in
     gathers-whole (a .offset) (a .n) (c .one-byte .ensures) (omega arith) (omega arith) (omega arith)
 
 two-bytes-requires : tie.Need-two-bytes-requires
@@ -38,9 +24,9 @@ two-bytes-requires c κs = search needs
 cast-result-2 : tie.Need-cast-result-2
 cast-result-2 c = search needs
 
-returns-3 : tie.Need-returns-3
-returns-3 c =
-    let a = c .before .before .before .before .before .before .args in
+returns-2 : tie.Need-returns-2
+returns-2 c =
+    let a = c .before .before .before .before .before .args in
     gathers-whole (a .offset) (a .n) (c .two-bytes .ensures) (omega arith) (omega arith) (omega arith)
 
 three-bytes-requires : tie.Need-three-bytes-requires
@@ -49,9 +35,9 @@ three-bytes-requires c κs = search needs
 cast-result-3 : tie.Need-cast-result-3
 cast-result-3 c = search needs
 
-returns-4 : tie.Need-returns-4
-returns-4 c =
-    let a = c .before .before .before .before .before .before .before .args in
+returns-3 : tie.Need-returns-3
+returns-3 c =
+    let a = c .before .before .before .before .before .before .args in
     gathers-whole (a .offset) (a .n) (c .three-bytes .ensures) (omega arith) (omega arith) (omega arith)
 
 four-bytes-requires : tie.Need-four-bytes-requires
@@ -60,9 +46,9 @@ four-bytes-requires c κs = search needs
 cast-result-4 : tie.Need-cast-result-4
 cast-result-4 c = search needs
 
-returns-5 : tie.Need-returns-5
-returns-5 c =
-    let a = c .before .before .before .before .before .before .before .before .args in
+returns-4 : tie.Need-returns-4
+returns-4 c =
+    let a = c .before .before .before .before .before .before .before .args in
     gathers-whole (a .offset) (a .n) (c .four-bytes .ensures) (omega arith) (omega arith) (omega arith)
 
 add-count : tie.Need-add-count
@@ -74,36 +60,32 @@ add-count-2 c = search needs
 gather-requires : tie.Need-gather-requires
 gather-requires c κs = search needs
 
-window-requires-2 : tie.Need-window-requires-2
-window-requires-2 c κs = search needs
+window-requires : tie.Need-window-requires
+window-requires c κs = search needs
 
-returns-6 : tie.Need-returns-6
-returns-6 c =
-    let a = c .before .before .before .before .before .args in
-    c .window2 .ensures ∙ sym (gathers-window (a .offset) (a .n) (c .before .gather .ensures) (omega arith) (omega arith))
+returns-5 : tie.Need-returns-5
+returns-5 c =
+    let a = c .before .before .before .before .args in
+    c .window .ensures ∙ sym (gathers-window (a .offset) (a .n) (c .before .gather .ensures) (omega arith) (omega arith))
 
 pub field-spec : {M : Type 1} → statement M
 field-spec =
     tie.close
     (tie.spec
-    sub-if1
-    eight-bytes-requires
-    window-requires
-    returns
     one-byte-requires
     cast-result
-    returns-2
+    returns
     two-bytes-requires
     cast-result-2
-    returns-3
+    returns-2
     three-bytes-requires
     cast-result-3
-    returns-4
+    returns-3
     four-bytes-requires
     cast-result-4
-    returns-5
+    returns-4
     add-count
     add-count-2
     gather-requires
-    window-requires-2
-    returns-6)
+    window-requires
+    returns-5)

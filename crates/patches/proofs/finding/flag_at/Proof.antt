@@ -26,8 +26,8 @@ returns : tie.Need-returns
 unfolding flagAt
 returns c = rw (c .before .before .if1 .taken) (c .flag-of .ensures)
 
-read-requires : tie.Need-read-requires
-read-requires c κs = search needs
+read-seldom-requires : tie.Need-read-seldom-requires
+read-seldom-requires c κs = search needs
 
 enum-known-flag : tie.Need-enum-known-flag
 enum-known-flag c = search needs
@@ -42,7 +42,7 @@ returns-2 c =
     let c6 = c3 .before .before .before in
     let a = c6 in
     let u = a .pre .0 .in-bits (c3 .if1 .left) in
-    let e = sym (c .enum-told .given .1) ∙ c2 .read .ensures in
+    let e = sym (c .enum-told .given .1) ∙ c2 .read-seldom .ensures in
     absurd (omega (arith, ended (a .args .data .now) (a .args .pos) (a .args .mesh .flag) (a .pre .0 .fair .flag-some) (a .pre .0 .fair .flag-few) (omega arith) e))
 
 cast-result-2 : tie.Need-cast-result-2
@@ -56,7 +56,7 @@ returns-3 c =
     let c4 = c3 .before in
     let c7 = c4 .before .before .before in
     let a = c7 .args in
-    rw (c4 .if1 .left) (found (a .data .now) (a .pos) (a .mesh .flag) (c7 .pre .0 .fair .flag-some) _ _ (sym (c1 .flag .given .1) ∙ c3 .read .ensures) .value)
+    rw (c4 .if1 .left) (found (a .data .now) (a .pos) (a .mesh .flag) (c7 .pre .0 .fair .flag-some) _ _ (sym (c1 .flag .given .1) ∙ c3 .read-seldom .ensures) .value)
 
 pub flag-at-spec : {M : Type 1} → statement M
 flag-at-spec =
@@ -67,7 +67,7 @@ flag-at-spec =
     flag-of-requires
     cast-result
     returns
-    read-requires
+    read-seldom-requires
     enum-known-flag
     enum-told
     returns-2

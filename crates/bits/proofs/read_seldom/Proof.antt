@@ -1,12 +1,12 @@
--- `bits::read_anywhere` meets its contract: each `return` is one case of the answer.
+-- `bits::read_seldom` meets its contract: each `return` is one case of the answer.
 -- Assumes nothing.
 use Prim.Native.Nat.{_+_, _*_, _%_}
 use mathlib.Core.Path.{_≡_}
 use native.Mathlib.Omega.{arith}
 use Rattle.bits.proofs.Answers.{answer-none, answer-wide, answer-short, answer-unplaced, answer-number}
 use borrow.Author.Needs.{needs}
-use Rattle.bits.proofs.read_anywhere.Statement.{statement}
-use Rattle.bits.proofs.read_anywhere.Tie as tie
+use Rattle.bits.proofs.read_seldom.Statement.{statement}
+use Rattle.bits.proofs.read_seldom.Tie as tie
 
 returns : tie.Need-returns
 returns c =
@@ -60,8 +60,8 @@ returns-6 c =
     let e : 8 * (c .before .before .before .byte-of .result .0) + a .at .0 % 8 ≡ a .at .0 = omega arith in
     rw (c .field .ensures, e) (answer-number (a .«data» .now) (a .at .0) (a .n) (omega arith) (omega arith) (omega arith) (omega arith))
 
-pub read-anywhere-spec : {M : Type 1} → statement M
-read-anywhere-spec =
+pub read-seldom-spec : {M : Type 1} → statement M
+read-seldom-spec =
     tie.close
     (tie.spec
     returns
