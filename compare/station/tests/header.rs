@@ -1,0 +1,77 @@
+//! The C header says what the library exports: each function's name, and each parameter's name, type and place.
+
+use std::path::Path;
+
+fn read(file: &str) -> String {
+    let path = Path::new(env!("CARGO_MANIFEST_DIR"))
+        .join("../..")
+        .join(file);
+    std::fs::read_to_string(&path).unwrap_or_else(|e| panic!("{}: {e}", path.display()))
+}
+
+/// The prototype that C needs for an exported function, written `fn NAME(NAME: TYPE, .., )` in the library.
+fn prototype(function: &str) -> String {
+    let (name, rest) = function.split_once('(').expect("parameters");
+    let (parameters, _) = rest.split_once(')').expect("an end of the parameters");
+    let parameters: Vec<String> = parameters
+        .split(',')
+        .map(str::trim)
+        .filter(|p| !p.is_empty())
+        .map(|p| {
+            let (name, kind) = p.split_once(": ").expect("a type");
+            match kind {
+                "usize" => format!("size_t {name}"),
+                "&[u8]" => format!("const uint8_t *{name}, size_t {name}_len"),
+                "&[u32]" => format!("const uint32_t *{name}, size_t {name}_len"),
+                "&[f64]" => format!("const double *{name}, size_t {name}_len"),
+                "&mut [u8]" => format!("uint8_t *{name}, size_t {name}_len"),
+                "&mut [u32]" => format!("uint32_t *{name}, size_t {name}_len"),
+                "&mut [f64]" => format!("double *{name}, size_t {name}_len"),
+                other => panic!("no C type is known for {other}"),
+            }
+        })
+        .collect();
+    format!("mesh_answer {name}({});", parameters.join(", "))
+}
+
+/// The prototypes of a header, each on one line.
+fn declared(header: &str) -> Vec<String> {
+    header
+        .split("mesh_answer mesh_")
+        .skip(1)
+        .map(|rest| {
+            let text = &rest[..=rest.find(';').expect("an end")];
+            let words: Vec<&str> = text.split_whitespace().collect();
+            format!("mesh_answer mesh_{}", words.join(" "))
+        })
+        .collect()
+}
+
+#[test]
+fn the_header_declares_what_is_exported() {
+    let exported: Vec<String> = read("crates/station/src/lib.rt")
+        .split("pub extern \"C\" fn ")
+        .skip(1)
+        .map(prototype)
+        .collect();
+    assert_eq!(exported.len(), 24);
+    assert_eq!(declared(&read("include/station.h")), exported);
+}
+
+#[test]
+fn the_header_numbers_the_refusals() {
+    use station::Refusal::*;
+    let header = read("include/station.h");
+    for (name, refusal) in [
+        ("LAYOUT", Layout),
+        ("COMPONENTS", Components),
+        ("LENGTH", Length),
+        ("ROOM", Room),
+        ("RECORD", Record),
+        ("THIN", Thin),
+        ("FILE", File),
+    ] {
+        let line = format!("MESH_{name} = {}", refusal.number());
+        assert!(header.contains(&line), "{line} is missing");
+    }
+}
