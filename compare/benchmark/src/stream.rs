@@ -1,23 +1,10 @@
 //! Inputs for the benchmark: whole records from a fixed generator, with the flags of a mesh that goes on.
 
+use generator::Generator;
 use station::{Kind, Layout};
 
-/// A fixed generator, so that every run times the same input.
-pub struct Generator(u64);
-
-impl Generator {
-    pub fn new() -> Self {
-        Generator(0x9e37_79b9_7f4a_7c15)
-    }
-
-    pub fn next(&mut self) -> u64 {
-        self.0 = self
-            .0
-            .wrapping_mul(6_364_136_223_846_793_005)
-            .wrapping_add(1_442_695_040_888_963_407);
-        self.0
-    }
-}
+/// Every run times the same input.
+const SEED: u64 = 0x4d53_4620_0003;
 
 /// The flag of a mesh's i-th record: a first triangle or patch, then joined ones by turns, and now and then a new one.
 fn flag(kind: Kind, i: usize) -> u64 {
@@ -60,7 +47,7 @@ pub fn record(kind: Kind, l: Layout, i: usize) -> (Option<u64>, Vec<usize>) {
 pub fn bytes(kind: Kind, l: Layout, size: usize) -> Vec<u8> {
     let mut out = vec![0u8; size];
     let mut place = 0;
-    let mut random = Generator::new();
+    let mut random = Generator::new(SEED);
     for i in 0.. {
         let (flag, widths) = record(kind, l, i);
         if place + widths.iter().sum::<usize>() > 8 * size {
@@ -69,7 +56,7 @@ pub fn bytes(kind: Kind, l: Layout, size: usize) -> Vec<u8> {
         for (k, &w) in widths.iter().enumerate() {
             let value = match flag {
                 Some(f) if k == 0 => f,
-                _ => random.next() >> (64 - w),
+                _ => random.bits() >> (64 - w),
             };
             for b in (0..w).rev() {
                 out[place / 8] |= (((value >> b) & 1) as u8) << (7 - place % 8);
@@ -83,8 +70,8 @@ pub fn bytes(kind: Kind, l: Layout, size: usize) -> Vec<u8> {
 /// As many whole records as fit into so many numbers: flags, then coordinates within 0 to 100 and components within 0 to 1.
 pub fn numbers(kind: Kind, components: usize, size: usize) -> Vec<f64> {
     let mut out = Vec::with_capacity(size);
-    let mut random = Generator::new();
-    let mut unit = || (random.next() >> 11) as f64 / (1u64 << 53) as f64;
+    let mut random = Generator::new(SEED);
+    let mut unit = || (random.bits() >> 11) as f64 / (1u64 << 53) as f64;
     for i in 0.. {
         let f = flag(kind, i);
         let (coords, colours) = shape(kind, f);

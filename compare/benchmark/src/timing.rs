@@ -2,25 +2,31 @@
 
 use std::time::Instant;
 
-const RUNS: usize = 9;
+/// Each job is run at least so often, and more often while all of them together take under a second.
+const LEAST_RUNS: usize = 5;
+const MOST_RUNS: usize = 25;
 
 /// The median seconds of each job, run in turn so that a slow moment of the machine hits all of them.
 pub fn medians<const N: usize>(jobs: [&mut dyn FnMut(); N]) -> [f64; N] {
-    let mut seconds = [[0.0f64; RUNS]; N];
+    let mut seconds = [const { Vec::new() }; N];
     let mut jobs = jobs;
     for job in jobs.iter_mut() {
         job(); // warm
     }
-    for run in 0..RUNS {
+    let begin = Instant::now();
+    for run in 0..MOST_RUNS {
+        if run >= LEAST_RUNS && begin.elapsed().as_secs_f64() > 1.0 {
+            break;
+        }
         for (job, times) in jobs.iter_mut().zip(seconds.iter_mut()) {
             let start = Instant::now();
             job();
-            times[run] = start.elapsed().as_secs_f64();
+            times.push(start.elapsed().as_secs_f64());
         }
     }
-    seconds.map(|mut times| {
+    seconds.map(|mut times: Vec<f64>| {
         times.sort_by(f64::total_cmp);
-        times[RUNS / 2]
+        times[times.len() / 2]
     })
 }
 

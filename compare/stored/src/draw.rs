@@ -1,7 +1,7 @@
 //! Draws a case: a mesh of whole records, then in part damaged, and a lent output of a chosen size.
 
 use crate::case::{Case, Input, MOST_INPUT, MOST_ROOM};
-use crate::generator::Generator;
+use generator::Generator;
 
 /// A number of a record.
 #[derive(Clone, Copy)]

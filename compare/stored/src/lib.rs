@@ -21,7 +21,6 @@
 
 pub mod case;
 mod draw;
-mod generator;
 
 use case::Case;
 use generator::Generator;

@@ -1,0 +1,342 @@
+//! Directed cases: every width, every count of components, every Decode entry, every odd number at every place, the limits of the input,
+//! and each reason for a writer to refuse.
+
+use crate::case::{Case, Input, Origin, Room, MOST_BYTES, MOST_NUMBERS};
+use crate::draw;
+use crate::raw::{RawCase, Task};
+use crate::record::{is_flagged, is_patched, size};
+use crate::report::{Bench, KINDS};
+use crate::run::Job;
+use generator::Generator;
+use station::{Kind, Layout, MeshKind};
+
+const ROOMS: [Room; 5] = [
+    Room::EXACT,
+    Room::Short(1),
+    Room::Beyond(1),
+    Room::Beyond(23),
+    Room::NONE,
+];
+
+pub fn jobs() -> Vec<Job> {
+    let mut jobs: Vec<Job> = Vec::new();
+    for kind in KINDS {
+        jobs.push(Box::new(move |bench| longest_inputs(kind, bench)));
+        for coordinate in 0..=33 {
+            jobs.push(Box::new(move |bench| widths(kind, coordinate, bench)));
+        }
+        jobs.push(Box::new(move |bench| component_counts(kind, bench)));
+        jobs.push(Box::new(move |bench| decode_entries(kind, bench)));
+        jobs.push(Box::new(move |bench| list_places(kind, bench)));
+        jobs.push(Box::new(move |bench| writers(kind, bench)));
+    }
+    jobs.push(Box::new(colours));
+    jobs
+}
+
+/// The type; a lattice has rows of two.
+fn mesh_kind(kind: Kind) -> MeshKind {
+    match kind {
+        Kind::Type4 => MeshKind::Type4,
+        Kind::Type5 => MeshKind::Type5 { row_length: 2 },
+        Kind::Type6 => MeshKind::Type6,
+        Kind::Type7 => MeshKind::Type7,
+    }
+}
+
+/// A layout of whole bytes.
+fn wide(components: usize) -> Layout {
+    Layout {
+        coordinate: 8,
+        component: 8,
+        flag: 8,
+        components,
+    }
+}
+
+/// Three patches or four triangles, the last of them joined; the numbers are those of the places.
+fn list(kind: Kind, components: usize) -> Vec<u32> {
+    let flags: &[u32] = match kind {
+        Kind::Type4 | Kind::Type5 => &[0, 0, 0, 1, 2, 2],
+        Kind::Type6 | Kind::Type7 => &[0, 2, 3],
+    };
+    let mut numbers = Vec::new();
+    for &flag in flags {
+        let end = numbers.len() + size(kind, components, flag);
+        numbers.extend(is_flagged(kind).then_some(flag));
+        numbers.extend((numbers.len()..end).map(|i| i as u32 & 0xff));
+    }
+    numbers
+}
+
+fn of_bytes(kind: Kind, layout: Layout, decode: Vec<f64>, data: Vec<u8>) -> Case {
+    Case {
+        kind: mesh_kind(kind),
+        layout,
+        decode,
+        input: Input::Bytes(data),
+        room: Room::EXACT,
+    }
+}
+
+fn of_list(kind: Kind, components: usize, values: Vec<f64>) -> Case {
+    Case {
+        kind: mesh_kind(kind),
+        layout: wide(components),
+        decode: Vec::new(),
+        input: Input::List(values),
+        room: Room::EXACT,
+    }
+}
+
+/// Every choice of the other two widths from 0 to 33 with this coordinate width. The count of components goes through 0 to 33 meanwhile.
+fn widths(kind: Kind, coordinate: usize, bench: &mut Bench<'_>) {
+    let mut random = Generator::new(coordinate as u64);
+    let mut components = coordinate;
+    for component in 0..=33 {
+        for flag in 0..=33 {
+            components = (components + 1) % 34;
+            let layout = Layout {
+                coordinate,
+                component,
+                flag,
+                components,
+            };
+            let mut case = draw::case(kind, Origin::Bytes, &mut random);
+            case.layout = layout;
+            case.decode = draw::decode(layout, &mut random);
+            case.input = Input::Bytes(draw::bytes(kind, layout, &mut random));
+            bench.mesh(&case);
+        }
+    }
+}
+
+/// 0 to 33 components, with each room.
+fn component_counts(kind: Kind, bench: &mut Bench<'_>) {
+    for components in 0..=33 {
+        let numbers = list(kind, components);
+        let data: Vec<u8> = numbers.iter().map(|&x| x as u8).collect();
+        let values: Vec<f64> = numbers.iter().map(|&x| f64::from(x) / 2.0).collect();
+        let decode = vec![0.0, 1.0, 0.0, 2.0, -0.5, 1.5];
+        for room in ROOMS {
+            for case in [
+                of_bytes(kind, wide(components), decode.clone(), data.clone()),
+                of_list(kind, components, values.clone()),
+            ] {
+                bench.mesh(&Case { room, ..case });
+            }
+            bench.raw(&RawCase {
+                kind,
+                layout: wide(components),
+                task: Task::Read(data.clone()),
+                room,
+            });
+            bench.raw(&RawCase {
+                kind,
+                layout: wide(components),
+                task: Task::Write(numbers.clone()),
+                room,
+            });
+        }
+    }
+}
+
+/// Every count of entries, and every odd number as each entry.
+fn decode_entries(kind: Kind, bench: &mut Bench<'_>) {
+    for components in 0..=5 {
+        let data: Vec<u8> = list(kind, components).iter().map(|&x| x as u8).collect();
+        let all = 4 + 2 * components;
+        for entries in 0..=all + 3 {
+            let plain: Vec<f64> = (0..entries).map(|i| i as f64 - 0.75).collect();
+            for place in 0..entries {
+                for bits in draw::ODD {
+                    let mut decode = plain.clone();
+                    decode[place] = f64::from_bits(bits);
+                    bench.mesh(&of_bytes(kind, wide(components), decode, data.clone()));
+                }
+            }
+            bench.mesh(&of_bytes(kind, wide(components), plain, data.clone()));
+        }
+    }
+}
+
+/// Every odd number, with some fractions, at each place of a list: as a flag, a coordinate and a component.
+fn list_places(kind: Kind, bench: &mut Bench<'_>) {
+    let fractions = [-0.5, 0.5, 0.999, 1.5, 2.5, 3.999, 4.000_001];
+    let odd = draw::ODD.map(f64::from_bits);
+    for components in 0..=5 {
+        let plain: Vec<f64> = list(kind, components)
+            .iter()
+            .map(|&x| f64::from(x))
+            .collect();
+        for place in 0..plain.len() {
+            for &value in odd.iter().chain(&fractions) {
+                let mut values = plain.clone();
+                values[place] = value;
+                bench.mesh(&of_list(kind, components, values));
+            }
+        }
+    }
+}
+
+/// A triangle with each pair of odd numbers as two of its components, for every way to make a colour.
+fn colours(bench: &mut Bench<'_>) {
+    let odd = draw::ODD.map(f64::from_bits);
+    for components in 1..=6 {
+        for first in 0..components {
+            for second in first..components {
+                for a in odd {
+                    for b in odd {
+                        let mut vertex = vec![0.5; 3 + components];
+                        vertex[0] = 0.0;
+                        vertex[3 + first] = a;
+                        vertex[3 + second] = b;
+                        bench.mesh(&of_list(Kind::Type4, components, vertex.repeat(3)));
+                    }
+                }
+            }
+        }
+    }
+}
+
+/// Inputs of just the allowed length and one longer, alone and with other reasons to refuse. The data give few triangles or patches, or none.
+fn longest_inputs(kind: Kind, bench: &mut Bench<'_>) {
+    let mut random = Generator::new(MOST_BYTES as u64);
+    let layout = Layout {
+        coordinate: 32,
+        component: 32,
+        flag: 32,
+        components: 32,
+    };
+    for (length, fill) in [(MOST_BYTES, 0), (MOST_BYTES, 5), (MOST_BYTES + 1, 5)] {
+        let mut case = of_bytes(kind, layout, vec![0.0, 1.0, 0.0, 1.0], vec![fill; length]);
+        bench.mesh(&case);
+        case.room = Room::Short(1);
+        bench.mesh(&case);
+        case.room = Room::Beyond(3);
+        for components in [33, usize::MAX] {
+            case.layout.components = components;
+            bench.mesh(&case);
+        }
+        case.layout.coordinate = 33;
+        bench.mesh(&case);
+    }
+    for length in [MOST_NUMBERS, MOST_NUMBERS + 1] {
+        for value in [0.0, 1.0, 5.0] {
+            let mut case = of_list(kind, 3, vec![value; length]);
+            bench.mesh(&case);
+            case.room = Room::Short(1);
+            bench.mesh(&case);
+            case.layout.components = 33;
+            bench.mesh(&case);
+        }
+        let decode: Vec<f64> = (0..length).map(|i| i as f64).collect();
+        let data = draw::bytes(kind, wide(4), &mut random);
+        bench.mesh(&of_bytes(kind, wide(4), decode, data));
+    }
+    longest_raw(kind, layout, bench);
+}
+
+/// The same for the raw readers and writers.
+fn longest_raw(kind: Kind, layout: Layout, bench: &mut Bench<'_>) {
+    for length in [MOST_BYTES, MOST_BYTES + 1] {
+        for room in [Room::EXACT, Room::Short(1)] {
+            bench.raw(&RawCase {
+                kind,
+                layout,
+                task: Task::Read(vec![0; length]),
+                room,
+            });
+        }
+    }
+    for (length, coordinate, components) in [
+        (MOST_NUMBERS, 8, 0),
+        (MOST_NUMBERS, 8, 2),
+        (MOST_NUMBERS + 1, 8, 0),
+        (MOST_NUMBERS + 1, 1, 0),
+        (MOST_NUMBERS + 1, 8, 33),
+        (MOST_NUMBERS + 1, 33, 0),
+    ] {
+        bench.raw(&RawCase {
+            kind,
+            layout: Layout {
+                coordinate,
+                component: 1,
+                flag: 1,
+                components,
+            },
+            task: Task::Write(vec![0; length]),
+            room: Room::EXACT,
+        });
+    }
+}
+
+/// A list that is whole, then with each number too large for its width, each flag and each end that breaks a rule, over many widths and
+/// thin ones among them; with each room.
+fn writers(kind: Kind, bench: &mut Bench<'_>) {
+    for components in [0, 1, 3] {
+        let plain = list(kind, components);
+        for (coordinate, component, flag) in [
+            (8, 8, 8),
+            (8, 9, 3),
+            (13, 8, 4),
+            (9, 32, 2),
+            (32, 31, 32),
+            (17, 16, 24),
+        ] {
+            let layout = Layout {
+                coordinate,
+                component,
+                flag,
+                components,
+            };
+            let mut run = |list: Vec<u32>, room: Room| {
+                bench.raw(&RawCase {
+                    kind,
+                    layout,
+                    task: Task::Write(list),
+                    room,
+                });
+            };
+            for room in ROOMS {
+                run(plain.clone(), room);
+            }
+            for end in 0..plain.len() {
+                run(plain[..end].to_vec(), Room::EXACT);
+            }
+            for place in 0..plain.len() {
+                for value in [0, 1, 3, 4, 5, 255, 256, 511, 512, u32::MAX >> 1, u32::MAX] {
+                    let mut list = plain.clone();
+                    list[place] = value;
+                    run(list, Room::NONE);
+                }
+            }
+        }
+    }
+    thin_writers(kind, bench);
+}
+
+/// Layouts whose vertices take 2 to 12 bits, with a list that is right, one that breaks a rule and an empty one.
+fn thin_writers(kind: Kind, bench: &mut Bench<'_>) {
+    for components in 0..=3 {
+        for widths in 0..27 {
+            let layout = Layout {
+                coordinate: 1 + widths % 3,
+                component: 1 + widths / 3 % 3,
+                flag: 1 + widths / 9,
+                components,
+            };
+            let right = vec![0; 2 * size(kind, components, 0)];
+            let mut wrong = vec![0; size(kind, components, 0)];
+            wrong[0] = if is_patched(kind) { 1 } else { 8 };
+            for list in [right, wrong, Vec::new()] {
+                bench.raw(&RawCase {
+                    kind,
+                    layout,
+                    task: Task::Write(list),
+                    room: Room::Beyond(1),
+                });
+            }
+        }
+    }
+}

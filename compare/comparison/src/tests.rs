@@ -1,0 +1,393 @@
+//! The comparison finds wrong answers and shrinks them, and the cases drawn meet what they should.
+
+use crate::case::{Case, Input, Origin, Room};
+use crate::checks::{check, Expected, Fault};
+use crate::draw;
+use crate::lent::Lent;
+use crate::library::{Library, Proved};
+use crate::raw::{RawCase, RawLent, Task};
+use crate::record::raw_reading;
+use crate::report::{Bench, KINDS};
+use crate::shrink::shrink;
+use generator::Generator;
+use station::{Kind, Layout, MeshKind, Reading, Refusal};
+use std::collections::BTreeSet;
+
+type Answer = Result<usize, Refusal>;
+
+/// What a wrong library makes of the proved one's answer and output.
+type Spoil<T> = fn(Answer, &mut [T]) -> Answer;
+
+/// A mesh function in place of the proved ones.
+type Mesh = dyn Fn(Reading, &Case, &mut [f64]) -> Answer + Sync;
+
+/// The proved library with some of its answers replaced or spoilt.
+struct Wrong {
+    mesh: Box<Mesh>,
+    read: Spoil<u32>,
+    write: Spoil<u8>,
+}
+
+impl Wrong {
+    fn mesh(mesh: impl Fn(Reading, &Case, &mut [f64]) -> Answer + Sync + 'static) -> Self {
+        Wrong {
+            mesh: Box::new(mesh),
+            read: |answer, _| answer,
+            write: |answer, _| answer,
+        }
+    }
+
+    fn spoilt(spoil: Spoil<f64>) -> Self {
+        Wrong::mesh(move |reading, case, out| spoil(Proved.mesh(reading, case, out), out))
+    }
+
+    fn read(read: Spoil<u32>) -> Self {
+        Wrong {
+            read,
+            ..Wrong::spoilt(|answer, _| answer)
+        }
+    }
+
+    fn write(write: Spoil<u8>) -> Self {
+        Wrong {
+            write,
+            ..Wrong::spoilt(|answer, _| answer)
+        }
+    }
+}
+
+impl Library for Wrong {
+    fn mesh(&self, reading: Reading, case: &Case, out: &mut [f64]) -> Answer {
+        (self.mesh)(reading, case, out)
+    }
+
+    fn raw_read(&self, kind: Kind, data: &[u8], l: Layout, out: &mut [u32]) -> Answer {
+        (self.read)(Proved.raw_read(kind, data, l, out), out)
+    }
+
+    fn raw_write(&self, kind: Kind, list: &[u32], l: Layout, out: &mut [u8]) -> Answer {
+        (self.write)(Proved.raw_write(kind, list, l, out), out)
+    }
+}
+
+fn fault_of(case: &Case, reading: Reading, library: &dyn Library) -> Option<Fault> {
+    check(
+        case,
+        reading,
+        &Expected::of(case),
+        library,
+        &mut Lent::new(),
+    )
+    .err()
+}
+
+/// The smallest case found for the first of many random ones that the library answers wrongly.
+fn found(kind: Kind, origin: Origin, reading: Reading, library: &dyn Library) -> (Case, Fault) {
+    let mut random = Generator::new(1);
+    for _ in 0..2000 {
+        let case = draw::case(kind, origin, &mut random);
+        if let Some(fault) = fault_of(&case, reading, library) {
+            return shrink(case, fault, |c| fault_of(c, reading, library));
+        }
+    }
+    panic!("nothing was found");
+}
+
+fn spoilt(kind: Kind, origin: Origin, mesh: Spoil<f64>) -> (Case, Fault) {
+    found(kind, origin, Reading::Ported, &Wrong::spoilt(mesh))
+}
+
+fn length(case: &Case) -> usize {
+    match &case.input {
+        Input::Bytes(data) => data.len(),
+        Input::List(values) => values.len(),
+    }
+}
+
+fn turn_last_bit(number: &mut f64) {
+    *number = f64::from_bits(number.to_bits() ^ 1);
+}
+
+#[test]
+fn the_proved_library_passes() {
+    let mut bench = Bench::new(&Proved);
+    let mut random = Generator::new(2);
+    for kind in KINDS {
+        for _ in 0..500 {
+            bench.mesh(&draw::case(kind, Origin::Bytes, &mut random));
+            bench.mesh(&draw::case(kind, Origin::List, &mut random));
+            bench.raw(&draw::raw_read(kind, &mut random));
+            bench.raw(&draw::raw_write(kind, &mut random));
+        }
+    }
+    assert_eq!(bench.report.disagreements(), 0, "{}", bench.report);
+    assert_eq!(bench.report.cases(), 12000);
+}
+
+#[test]
+fn a_number_changed_by_one_bit_is_found_and_shrunk() {
+    // the smallest mesh of each type, in numbers of a list and in bytes of one bit for each number
+    for (kind, numbers, bytes) in [
+        (Kind::Type4, 9, 2),
+        (Kind::Type5, 8, 1),
+        (Kind::Type6, 25, 4),
+        (Kind::Type7, 33, 5),
+    ] {
+        for (origin, least) in [(Origin::List, numbers), (Origin::Bytes, bytes)] {
+            let (case, fault) = spoilt(kind, origin, |answer, out| {
+                if answer.is_ok_and(|count| count > 0) {
+                    turn_last_bit(&mut out[0]);
+                }
+                answer
+            });
+            assert_eq!(length(&case), least, "{case}{fault}");
+            assert_eq!(case.layout.components, 0, "{case}{fault}");
+            assert_eq!(case.room, Room::EXACT, "{case}{fault}");
+            assert!(fault.place.starts_with("row 0"), "{case}{fault}");
+        }
+    }
+}
+
+#[test]
+fn a_count_off_by_one_is_found_and_shrunk() {
+    for kind in KINDS {
+        for origin in [Origin::Bytes, Origin::List] {
+            let (case, fault) = spoilt(kind, origin, |answer, _| match answer {
+                Ok(count) if count > 0 => Ok(count - 1),
+                other => other,
+            });
+            assert_eq!(fault.place, "the answer");
+            assert!(length(&case) <= 33, "{case}{fault}");
+        }
+    }
+}
+
+#[test]
+fn a_number_written_beyond_is_found_and_shrunk() {
+    for kind in KINDS {
+        let (case, fault) = spoilt(kind, Origin::Bytes, |answer, out| {
+            if answer == Ok(0) {
+                out.last_mut().into_iter().for_each(turn_last_bit);
+            }
+            answer
+        });
+        assert_eq!(length(&case), 0, "{case}{fault}");
+        assert!(fault.place.ends_with("to be left as it was"), "{fault}");
+    }
+}
+
+#[test]
+fn a_refusal_that_writes_and_a_wrong_refusal_are_found() {
+    let (case, fault) = spoilt(Kind::Type6, Origin::List, |answer, out| {
+        if answer.is_err() {
+            out.first_mut().into_iter().for_each(turn_last_bit);
+        }
+        answer
+    });
+    assert!(fault.place.starts_with("place 0"), "{case}{fault}");
+    let (case, fault) = spoilt(Kind::Type7, Origin::Bytes, |answer, _| match answer {
+        Err(Refusal::Layout) => Err(Refusal::Components),
+        other => other,
+    });
+    assert!(fault.expected.contains("Layout"), "{case}{fault}");
+    assert_eq!(length(&case), 0, "{case}{fault}");
+}
+
+/// Turns every NaN in an output into another.
+fn change_nans(answer: Answer, out: &mut [f64]) -> Answer {
+    for number in out.iter_mut().filter(|x| answer.is_ok() && x.is_nan()) {
+        turn_last_bit(number);
+    }
+    answer
+}
+
+#[test]
+fn a_changed_payload_of_a_copied_nan_is_found_and_shrunk() {
+    for kind in KINDS {
+        let (case, fault) = spoilt(kind, Origin::List, change_nans);
+        assert!(length(&case) <= 33, "{case}{fault}");
+        assert!(fault.expected.starts_with("7ff") || fault.expected.starts_with("fff"));
+    }
+}
+
+#[test]
+fn the_payload_of_a_computed_nan_does_not_count_but_where_it_is_taken_over() {
+    let wrong = Wrong::spoilt(change_nans);
+    let mut case = Case {
+        kind: MeshKind::Type6,
+        layout: Layout {
+            coordinate: 8,
+            component: 8,
+            flag: 8,
+            components: 1,
+        },
+        decode: vec![f64::NAN; 6],
+        input: Input::Bytes([[0; 29].as_slice(), &[1; 19]].concat()),
+        room: Room::EXACT,
+    };
+    // all NaNs of both patches are changed alike
+    assert!(fault_of(&case, Reading::Ported, &wrong).is_none());
+    // only one that the second patch takes over
+    let second = Wrong::spoilt(|answer, out| {
+        if answer == Ok(2) {
+            turn_last_bit(&mut out[60]);
+        }
+        answer
+    });
+    let fault = fault_of(&case, Reading::Ported, &second).expect("a fault");
+    assert_eq!(fault.place, "row 1, point 0, x, taken over");
+    // a number of its own
+    let own = Wrong::spoilt(|answer, out| {
+        if answer == Ok(2) {
+            turn_last_bit(&mut out[60 + 8]);
+        }
+        answer
+    });
+    assert!(fault_of(&case, Reading::Ported, &own).is_none());
+    case.decode = vec![0.0; 6];
+    assert!(fault_of(&case, Reading::Ported, &own).is_some());
+}
+
+#[test]
+fn a_published_reading_that_is_the_ported_one_is_found_and_shrunk() {
+    let ported = Wrong::mesh(|_, case, out| Proved.mesh(Reading::Ported, case, out));
+    let published = |kind| found(kind, Origin::List, Reading::Published, &ported);
+    let (case, fault) = published(Kind::Type4);
+    assert_eq!(length(&case), 15, "{case}{fault}");
+    let (case, fault) = published(Kind::Type7);
+    assert_eq!(length(&case), 33 + 25, "{case}{fault}");
+    let mut random = Generator::new(3);
+    for kind in [Kind::Type5, Kind::Type6] {
+        for _ in 0..500 {
+            let case = draw::case(kind, Origin::List, &mut random);
+            assert!(fault_of(&case, Reading::Published, &ported).is_none());
+        }
+    }
+}
+
+#[test]
+fn a_fused_multiply_and_add_is_found_and_shrunk() {
+    let fused = Wrong::mesh(|reading, case, out| {
+        let answer = Proved.mesh(reading, case, out);
+        if let (Ok(1..), Input::Bytes(data)) = (answer, &case.input) {
+            let raw = raw_reading(Kind::Type5, case.layout, data)[0];
+            let (min, max) = (case.decode[0], case.decode[1]);
+            let scale = (max - min) / ((1u64 << case.layout.coordinate) - 1) as f64;
+            out[0] = f64::from(raw).mul_add(scale, min);
+        }
+        answer
+    });
+    let (case, fault) = found(Kind::Type5, Origin::Bytes, Reading::Ported, &fused);
+    assert_eq!(fault.place, "row 0, vertex 0, x", "{case}{fault}");
+    assert!(length(&case) <= 16, "{case}{fault}");
+}
+
+/// The smallest raw case that the library answers wrongly.
+fn found_raw(kind: Kind, is_read: bool, wrong: &Wrong) -> (RawCase, Fault) {
+    let mut random = Generator::new(4);
+    let mut lent = RawLent::new();
+    for _ in 0..2000 {
+        let case = if is_read {
+            draw::raw_read(kind, &mut random)
+        } else {
+            draw::raw_write(kind, &mut random)
+        };
+        if let Err(fault) = case.check(wrong, &mut lent) {
+            return shrink(case, fault, |c| c.check(wrong, &mut lent).err());
+        }
+    }
+    panic!("nothing was found");
+}
+
+#[test]
+fn a_wrong_raw_number_is_found_and_shrunk() {
+    let wrong = Wrong::read(|answer, out| {
+        if answer.is_ok() {
+            out.first_mut().into_iter().for_each(|x| *x ^= 1);
+        }
+        answer
+    });
+    for (kind, bytes) in KINDS.into_iter().zip([1, 1, 4, 5]) {
+        let (case, fault) = found_raw(kind, true, &wrong);
+        let Task::Read(data) = &case.task else {
+            panic!("a reader's case")
+        };
+        assert!(data.len() <= bytes, "{case}{fault}");
+        let (case, fault) = found_raw(kind, false, &wrong);
+        assert!(fault.place.contains("read back"), "{case}{fault}");
+    }
+}
+
+#[test]
+fn a_wrong_fill_bit_and_a_byte_beyond_are_found() {
+    let fill = Wrong::write(|answer, out| {
+        if let Ok(count @ 1..) = answer {
+            out[count - 1] ^= 1;
+        }
+        answer
+    });
+    let beyond = Wrong::write(|answer, out| {
+        if let Some(byte) = answer.ok().and_then(|count| out.get_mut(count)) {
+            *byte ^= 0x80;
+        }
+        answer
+    });
+    for kind in KINDS {
+        let (case, fault) = found_raw(kind, false, &fill);
+        assert!(fault.place.starts_with("place"), "{case}{fault}");
+        let (case, fault) = found_raw(kind, false, &beyond);
+        assert!(
+            fault.place.ends_with("to be left as it was"),
+            "{case}{fault}"
+        );
+    }
+}
+
+#[test]
+fn the_report_tells_of_a_disagreement() {
+    let wrong = Wrong::spoilt(|answer, _| answer.map(|count| count + 1));
+    let mut bench = Bench::new(&wrong);
+    let mut random = Generator::new(5);
+    while bench.report.disagreements() == 0 {
+        bench.mesh(&draw::case(Kind::Type4, Origin::List, &mut random));
+    }
+    assert_eq!(bench.report.disagreements(), 2);
+    let text = bench.report.to_string();
+    assert!(text.contains("list:   [], 0 in all"), "{text}");
+    assert!(text.contains("ours:     accepted, 1"), "{text}");
+}
+
+#[test]
+fn the_cases_drawn_meet_every_width_count_and_refusal() {
+    let mut random = Generator::new(6);
+    for kind in KINDS {
+        for origin in [Origin::Bytes, Origin::List] {
+            let mut widths = [(); 3].map(|()| BTreeSet::new());
+            let mut counts = BTreeSet::new();
+            let mut refusals = BTreeSet::new();
+            for _ in 0..40_000 {
+                let case = draw::case(kind, origin, &mut random);
+                let l = case.layout;
+                let expected = Expected::of(&case);
+                refusals.extend(expected.answer.err().map(Refusal::number));
+                if expected.answer.is_ok_and(|count| count > 0) {
+                    counts.insert(l.components);
+                    for (set, width) in widths.iter_mut().zip([l.coordinate, l.component, l.flag]) {
+                        set.insert(width);
+                    }
+                }
+            }
+            assert!((0..=32).all(|n| counts.contains(&n)), "{kind:?} {origin:?}");
+            let expected: &[u64] = match origin {
+                Origin::Bytes => &[1, 2, 4],
+                Origin::List => &[2, 4],
+            };
+            assert!(refusals.iter().eq(expected), "{kind:?}: {refusals:?}");
+            let all = |set: &BTreeSet<usize>| (1..=32).all(|width| set.contains(&width));
+            assert!(
+                origin == Origin::List || widths.iter().all(all),
+                "{kind:?} {widths:?}"
+            );
+        }
+    }
+}
