@@ -3,7 +3,7 @@
 use std::time::Instant;
 
 /// Each job is run at least so often, and more often while all of them together take under a second.
-const LEAST_RUNS: usize = 5;
+const LEAST_RUNS: usize = 3;
 const MOST_RUNS: usize = 25;
 
 /// The median seconds of each job, run in turn so that a slow moment of the machine hits all of them.
