@@ -1,19 +1,18 @@
 -- Bytes put together into a number, and bits taken out of it. Assumes nothing.
 use Prim.Native.Nat.{ℕ, _+_, _-_, _*_, _/_, _%_, _^_, _≤_, _<_}
 use mathlib.Core.Path.{_≡_, refl, sym, ap, _∙_, subst}
-use mathlib.Core.List.{List, [], append-nil}
-use native.Mathlib.Nat.{add-zero, add-assoc, mul-add, one-mul, mod-eq-of-lt, mod-lt, div-one, lt-of-lt-of-le}
-use native.Mathlib.Numerals.{add-one}
+use mathlib.Core.List.{List, append-nil}
+use native.Mathlib.Nat.{add-assoc, mul-add, one-mul, mod-eq-of-lt, mod-lt, div-one, lt-of-lt-of-le}
 use native.Mathlib.Omega.{arith}
-use lib.ListN.{length, take, drop, getD, length-drop}
-use lib.Seq.{drop-drop, take-add, take-suc, getD-drop, drop-cons}
+use lib.ListN.{length, take, drop, getD}
+use lib.Seq.{drop-drop, take-add, drop-cons}
 use lib.Pow.{pow-pos, pow-add, pow-mono, shl-exact}
 use lib.Arith.{digits-lt}
 use lib.Bits.{bitOr, or-shifted, bitAnd, and-mask}
 use lib.Dec.{lit<}
 use Rattle.bits.specs.Bits.{bitsOf, number, stream, fieldAt}
 use Rattle.bits.specs.Gathering.{Gathers}
-use Rattle.bits.proofs.Digits.{length-bits, number-bits, take-bits, drop-bits, bits-join}
+use Rattle.bits.proofs.Digits.{number-bits, take-bits, drop-bits, bits-join}
 use Rattle.bits.proofs.Streams.{stream-append, bytes-window}
 
 -- no byte
@@ -45,11 +44,11 @@ pub gathers-put : {s : List ℕ} {from : ℕ} (w a b : ℕ) {x y : ℕ} → 8 * 
     → Gathers s from (a + b) (bitOr (x * 2 ^ (8 * b) % 2 ^ w) y)
 gathers-put w a b {x} {y} fits g h = rw (put-below w (8 * a) (8 * b) x y (g .small) fits (h .small)) (gathers-join a b g h)
 
--- the byte at j after from, put above the k bytes after it in a number of 64 bits
-pub gathers-before : {s : List ℕ} (from j k : ℕ) {x y : ℕ} → 1 + k ≤ 8 → Gathers s (from + j) 1 x → Gathers s (from + (j + 1)) k y
-    → Gathers s (from + j) (1 + k) (bitOr (x * 2 ^ (8 * k) % 2 ^ 64) y)
-gathers-before {s} from j k {y = y} fits g h =
-    gathers-put 64 1 k (omega arith) g (subst (λ (i : ℕ). Gathers s i k y) (sym (add-assoc from j 1)) h)
+-- the byte at j after from, put above the k bytes after it in a number of w bits
+pub gathers-before : {s : List ℕ} (w from j k : ℕ) {x y : ℕ} → 8 + 8 * k ≤ w → Gathers s (from + j) 1 x → Gathers s (from + (j + 1)) k y
+    → Gathers s (from + j) (1 + k) (bitOr (x * 2 ^ (8 * k) % 2 ^ w) y)
+gathers-before {s} w from j k {y = y} fits g h =
+    gathers-put w 1 k fits g (subst (λ (i : ℕ). Gathers s i k y) (sym (add-assoc from j 1)) h)
 
 -- how the code takes the low n bits
 pub one-shl : (n : ℕ) → n ≤ 32 → 1 * 2 ^ n % 2 ^ 64 ≡ 2 ^ n

@@ -1,9 +1,8 @@
 // The bit reader: numbers of 1 to 32 bits, taken from the high end of each byte, bytes in order.
 // A place is handed in and the next one handed back; the slice is lent for each read.
 ghost use mathlib.Core.Path.{_≡_};
-ghost use Prim.Native.Nat.{_+_, _-_, _*_, _/_, _%_, _^_, _≤_, _<_};
+ghost use Prim.Native.Nat.{_+_, _-_, _*_, _/_, _%_, _^_, _≤_};
 ghost use lib.ListN.{length};
-ghost use Rattle.bits.specs.Bits.{fieldAt};
 ghost use Rattle.bits.specs.Reading.{readAt, exhaustedAt};
 ghost use Rattle.bits.specs.Gathering.{Gathers};
 
@@ -36,7 +35,7 @@ pub fn exhausted(data: &[u8], at: BitPos) -> bool
     data.len() <= i
 }
 
-// The bits of 1, 2, 3, 4 or 8 bytes from a place, as a number.
+// The bits of 1 or 8 bytes from a place, as a number.
 
 fn one_byte(data: &[u8], from: BytePlace) -> u64
     requires { ⌜ from .0 + 1 ≤ length (now «data») ⌝ }
@@ -44,30 +43,6 @@ fn one_byte(data: &[u8], from: BytePlace) -> u64
 {
     let i = from.0;
     data[i] as u64
-}
-
-fn two_bytes(data: &[u8], from: BytePlace) -> u64
-    requires { ⌜ from .0 + 2 ≤ length (now «data») ⌝ }
-    ensures { λ r. ⌜ Gathers (now («data» .entry)) (from .0) 2 r ⌝ }
-{
-    let i = from.0;
-    (one_byte(data, from) << 8) | one_byte(data, BytePlace(i + 1))
-}
-
-fn three_bytes(data: &[u8], from: BytePlace) -> u64
-    requires { ⌜ from .0 + 3 ≤ length (now «data») ⌝ }
-    ensures { λ r. ⌜ Gathers (now («data» .entry)) (from .0) 3 r ⌝ }
-{
-    let i = from.0;
-    (two_bytes(data, from) << 8) | one_byte(data, BytePlace(i + 2))
-}
-
-fn four_bytes(data: &[u8], from: BytePlace) -> u64
-    requires { ⌜ from .0 + 4 ≤ length (now «data») ⌝ }
-    ensures { λ r. ⌜ Gathers (now («data» .entry)) (from .0) 4 r ⌝ }
-{
-    let i = from.0;
-    (two_bytes(data, from) << 16) | two_bytes(data, BytePlace(i + 2))
 }
 
 // Eight bytes in one go: each is put where it belongs, so that a machine can load them at once.
@@ -87,21 +62,6 @@ fn eight_bytes(data: &[u8], from: BytePlace) -> u64
     (a << 56) | ((b << 48) | ((c << 40) | ((d << 32) | ((e << 24) | ((f << 16) | ((g << 8) | h))))))
 }
 
-// The bits of up to five bytes from a place, as a number.
-fn gather(data: &[u8], from: BytePlace, count: usize) -> u64
-    requires { ⌜ (count ≤ 5) × (from .0 + count ≤ length (now «data»)) ⌝ }
-    ensures { λ r. ⌜ Gathers (now («data» .entry)) (from .0) count r ⌝ }
-{
-    let i = from.0;
-    let mut accum: u64 = 0;
-    let mut k: usize = 0;
-    while k < count {
-        accum = (accum << 8) | (data[i + k] as u64);
-        k += 1;
-    }
-    accum
-}
-
 // Of count gathered bytes, the n bits at an offset.
 fn window(accum: u64, count: usize, offset: usize, n: usize) -> u32
     requires { ⌜ (n ≤ 32) × (count ≤ 8) × (1 ≤ n) × (offset + n ≤ 8 * count) ⌝ }
@@ -112,30 +72,8 @@ fn window(accum: u64, count: usize, offset: usize, n: usize) -> u32
     ((accum >> shift) & mask) as u32
 }
 
-// The n bits at an offset into the byte at a place, all of which exist: four shortcuts for whole bytes, and the bytes one by one.
-fn field(data: &[u8], from: BytePlace, offset: usize, n: usize) -> u32
-    requires { ⌜ (offset < 8) × (1 ≤ n) × (n ≤ 32) × (8 * (from .0) + (offset + n) ≤ 8 * length (now «data»)) ⌝ }
-    ensures { λ r. ⌜ r ≡ fieldAt (now («data» .entry)) (8 * (from .0) + offset) n ⌝ }
-{
-    if offset == 0 {
-        if n == 8 {
-            return one_byte(data, from) as u32;
-        }
-        if n == 16 {
-            return two_bytes(data, from) as u32;
-        }
-        if n == 24 {
-            return three_bytes(data, from) as u32;
-        }
-        if n == 32 {
-            return four_bytes(data, from) as u32;
-        }
-    }
-    let count = (offset + n + 7) / 8;
-    window(gather(data, from, count), count, offset, n)
-}
-
-// Reads n bits at a place, as `read` does, by a function that a compiler leaves whole: for a number that is read now and then.
+// Reads n bits at a place, as `read` does, for a number that is read now and then: four shortcuts for whole bytes, and the bytes one by one.
+// It takes its bytes by itself and hands the slice on to nobody, so that a caller can keep the slice in registers.
 pub fn read_seldom(data: &[u8], at: BitPos, n: usize) -> BitRead
     ensures { λ r. ⌜ r ≡ readAt (now («data» .entry)) (at .0) n ⌝ }
 {
@@ -159,7 +97,38 @@ pub fn read_seldom(data: &[u8], at: BitPos, n: usize) -> BitRead
     if data.len() - byte < (offset + n + 7) / 8 {
         return BitRead::End; // not all bits exist
     }
-    BitRead::Number(field(data, place, offset, n), BitPos(end))
+    if offset == 0 {
+        if n == 8 {
+            let a = data[byte] as u32;
+            return BitRead::Number(a, BitPos(end));
+        }
+        if n == 16 {
+            let a = data[byte] as u32;
+            let b = data[byte + 1] as u32;
+            return BitRead::Number((a << 8) | b, BitPos(end));
+        }
+        if n == 24 {
+            let a = data[byte] as u32;
+            let b = data[byte + 1] as u32;
+            let c = data[byte + 2] as u32;
+            return BitRead::Number((a << 16) | ((b << 8) | c), BitPos(end));
+        }
+        if n == 32 {
+            let a = data[byte] as u32;
+            let b = data[byte + 1] as u32;
+            let c = data[byte + 2] as u32;
+            let d = data[byte + 3] as u32;
+            return BitRead::Number((a << 24) | ((b << 16) | ((c << 8) | d)), BitPos(end));
+        }
+    }
+    let count = (offset + n + 7) / 8;
+    let mut accum: u64 = 0;
+    let mut k: usize = 0;
+    while k < count {
+        accum = (accum << 8) | (data[byte + k] as u64);
+        k += 1;
+    }
+    BitRead::Number(window(accum, count, offset, n), BitPos(end))
 }
 
 // Reads n bits at a place: the number and the place after it, or the end. A read of 0 bits gives 0. All but the last bytes are read eight at

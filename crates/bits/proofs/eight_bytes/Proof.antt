@@ -55,12 +55,12 @@ returns : tie.Need-returns
 returns c =
     let i = c .before .before .before .before .before .before .before .before .before .args .from .0 in
     gathers-put 64 1 7 (lit≤ tt) (c .before .before .before .before .before .before .before .one-byte .ensures)
-    (gathers-before i 1 6 (lit≤ tt) (c .before .before .before .before .before .before .one-byte2 .ensures)
-    (gathers-before i 2 5 (lit≤ tt) (c .before .before .before .before .before .one-byte3 .ensures)
-    (gathers-before i 3 4 (lit≤ tt) (c .before .before .before .before .one-byte4 .ensures)
-    (gathers-before i 4 3 (lit≤ tt) (c .before .before .before .one-byte5 .ensures)
-    (gathers-before i 5 2 (lit≤ tt) (c .before .before .one-byte6 .ensures)
-    (gathers-before i 6 1 (lit≤ tt) (c .before .one-byte7 .ensures)
+    (gathers-before 64 i 1 6 (lit≤ tt) (c .before .before .before .before .before .before .one-byte2 .ensures)
+    (gathers-before 64 i 2 5 (lit≤ tt) (c .before .before .before .before .before .one-byte3 .ensures)
+    (gathers-before 64 i 3 4 (lit≤ tt) (c .before .before .before .before .one-byte4 .ensures)
+    (gathers-before 64 i 4 3 (lit≤ tt) (c .before .before .before .one-byte5 .ensures)
+    (gathers-before 64 i 5 2 (lit≤ tt) (c .before .before .one-byte6 .ensures)
+    (gathers-before 64 i 6 1 (lit≤ tt) (c .before .one-byte7 .ensures)
     (c .one-byte8 .ensures)))))))
 
 pub eight-bytes-spec : {M : Type 1} → statement M

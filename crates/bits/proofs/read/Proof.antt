@@ -1,7 +1,7 @@
 -- `bits::read` meets its contract: eight bytes at the place hold all bits, and a window of them is the number.
 -- Assumes nothing.
 use Prim.Native.Nat.{_+_, _*_, _%_}
-use mathlib.Core.Path.{_≡_, sym, _∙_}
+use mathlib.Core.Path.{_≡_}
 use native.Mathlib.Omega.{arith}
 use Rattle.bits.proofs.Gathering.{gathers-window}
 use Rattle.bits.proofs.Answers.{answer-number}
