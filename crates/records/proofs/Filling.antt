@@ -107,23 +107,15 @@ module _ {m : Mesh} {s l o : List ℕ} {count p at : ℕ} {started : Bool} (w : 
           → Turn m s o count p at started coords (colours * m .n)
       patch-turn e = record-turn (run-of-one s at (m .first) v) e (decLe _ (8 * length s))
 
-  -- a turn writes the record's first number, which ends at after, and then the rest, which ends at place
-  module _ {coords comps : ℕ} (t : Turn m s o count p at started coords comps) {o′ : List ℕ} {after : ℕ} (a : after ≡ at + 1 * m .first)
-      (v : Written o o′ p (numbersAt s at (replicate 1 (m .first))) (p + 1)) where
-    pub rest-there : (Readable m s) × (after + (coords * m .coord + comps * m .comp) ≤ 8 * length s) × (p + 1 + (coords + comps) ≤ length o′)
-    rest-there = (w .readable, omega (arith, t .standing .whole), omega (arith, t .room, written-length v))
-
-    pub turn-done : {o″ : List ℕ} {place : ℕ} → place ≡ after + (coords * m .coord + comps * m .comp)
-        → Written o′ o″ (p + 1) (numbersAt s after (widthsAfter m coords comps)) (p + 1 + (coords + comps))
-        → Filling m s l o″ count (p + (1 + coords + comps)) place true
-    turn-done {o″} {place} b u =
+  module _ {coords comps : ℕ} (t : Turn m s o count p at started coords comps) where
+    -- a turn writes the record, which ends at place
+    pub turn-done : {o′ : List ℕ} {place : ℕ} → place ≡ at + m .first + (coords * m .coord + comps * m .comp)
+        → Written o o′ p (numbersAt s at (m .first ∷ widthsAfter m coords comps)) (p + (1 + coords + comps))
+        → Filling m s l o′ count (p + (1 + coords + comps)) place true
+    turn-done e x =
         let st = t .standing in
-        let e : place ≡ at + m .first + (coords * m .coord + comps * m .comp) = omega arith in
-        let f : after ≡ at + m .first = omega arith in
-        let g : p + (1 + coords + comps) ≡ p + 1 + (coords + comps) = omega arith in
-        let x = record-written m s at coords comps v (rw f at u) in
         let n = written-length x in
-        rw (e, g)
+        rw e
         (record {
           readable = w .readable;
           whole = w .whole;
@@ -131,3 +123,16 @@ module _ {m : Mesh} {s l o : List ℕ} {count p at : ℕ} {started : Bool} (w : 
           same = n ∙ w .same;
           going = going-step (numbersAt s at (m .first ∷ widthsAfter m coords comps)) _ (rw (rest-record (w .readable) st) at (w .going)) x;
         })
+
+    -- of a patch its first number, which ends at after, and then the rest
+    module _ {o′ : List ℕ} {after : ℕ} (a : after ≡ at + 1 * m .first) (v : Written o o′ p (numbersAt s at (replicate 1 (m .first))) (p + 1)) where
+      pub rest-there : (Readable m s) × (after + (coords * m .coord + comps * m .comp) ≤ 8 * length s) × (p + 1 + (coords + comps) ≤ length o′)
+      rest-there = (w .readable, omega (arith, t .standing .whole), omega (arith, t .room, written-length v))
+
+      pub patch-done : {o″ : List ℕ} {place : ℕ} → place ≡ after + (coords * m .coord + comps * m .comp)
+          → Written o′ o″ (p + 1) (numbersAt s after (widthsAfter m coords comps)) (p + 1 + (coords + comps))
+          → Filling m s l o″ count (p + (1 + coords + comps)) place true
+      patch-done b u =
+          let f : after ≡ at + m .first = omega arith in
+          let g : p + (1 + coords + comps) ≡ p + 1 + (coords + comps) = omega arith in
+          turn-done (omega arith) (rw g (record-written m s at coords comps v (rw f at u)))

@@ -7,7 +7,7 @@ use mathlib.Core.Option.{none, Option·some-injective, Option·none-ne-some}
 use native.Mathlib.Nat.{mul-le-mul}
 use native.Mathlib.Omega.{arith}
 use lib.Dec.{eqb, leb}
-use lib.ListN.{length, take, drop, replicate}
+use lib.ListN.{length, take, drop, replicate, length-append, length-replicate}
 use Rattle.bits.specs.Bits.{number, stream, fieldAt}
 use Rattle.records.specs.declared.shape.Kind.{Kind}
 use Rattle.records.specs.declared.shape.Kind.the-variants.{Four, Five, Six, Seven}
@@ -60,6 +60,9 @@ small {m} started flag r e =
 pub sum-after : (m : Mesh) (coords comps : ℕ) → sum (widthsAfter m coords comps) ≡ coords * m .coord + comps * m .comp
 sum-after m coords comps =
     rw (sum-append (replicate coords (m .coord)) (replicate comps (m .comp)), sum-replicate coords (m .coord), sum-replicate comps (m .comp))
+
+pub length-after : (m : Mesh) (coords comps : ℕ) → length (widthsAfter m coords comps) ≡ coords + comps
+length-after m coords comps = rw (length-append, length-replicate coords (m .coord), length-replicate comps (m .comp))
 
 -- ---- whether there is a record
 

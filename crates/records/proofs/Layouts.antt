@@ -2,9 +2,13 @@
 use Prim.Native.Nat.{ℕ, _≤_}
 use mathlib.Core.Path.{_≡_, refl}
 use mathlib.Core.Bool.{Bool, true, false, _&&_}
+use mathlib.Core.List.{_∷_, _++_}
 use native.Mathlib.Omega.{arith}
 use borrow.Author.Tests.{leb-true}
 use lib.Dec.{leb}
+use lib.ListN.{replicate}
+use Rattle.lists.specs.Lists.{All}
+use Rattle.lists.proofs.Members.{all-append, all-replicate}
 use Rattle.bits.specs.Reading.{readable}
 use Rattle.records.specs.Layout.{widthsReadable}
 
@@ -32,3 +36,11 @@ widths-readable first coord comp e =
     let t = both-true (readable coord) (readable comp && readable first) e in
     let u = both-true (readable comp) (readable first) (t .1) in
     record { of-first = width-readable first (u .1); of-coord = width-readable coord (t .0); of-comp = width-readable comp (u .0) }
+
+-- every width of a record: its first number's, then so many coordinates', then components'
+pub record-widths : {first coord comp : ℕ} (coords comps : ℕ) → Widths first coord comp
+    → All Width (first ∷ (replicate coords coord ++ replicate comps comp))
+record-widths {first} {coord} {comp} coords comps w = (
+  w .of-first,
+  all-append Width (replicate coords coord) (replicate comps comp) (all-replicate Width coords coord (w .of-coord)) (all-replicate Width comps comp (w .of-comp)),
+)

@@ -12,7 +12,6 @@ use borrow.Author.Tests.{lt-leb}
 use lib.ListN.{length, drop, replicate}
 use lib.Seq.{drop-drop}
 use Rattle.lists.specs.Lists.{All}
-use Rattle.lists.proofs.Members.{all-append, all-replicate}
 use Rattle.answers.specs.Limits.{mostBytes}
 use Rattle.bits.specs.Bits.{stream, fieldAt}
 use Rattle.bits.specs.Reading.{exhaustedAt}
@@ -24,7 +23,7 @@ use Rattle.records.specs.Layout.{widthsReadable}
 use Rattle.records.specs.Format.{sum, numbers, Format, shapeOf, format, readings, rawReading}
 use Rattle.records.specs.Loop.{ok, cut, prepend, reads}
 use Rattle.records.specs.VertexLoop.{kept, vertexLoop}
-use Rattle.records.proofs.Layouts.{Width, widths-readable}
+use Rattle.records.proofs.Layouts.{Width, widths-readable, record-widths}
 use Rattle.records.proofs.Readings.{length-from, readings-none, readings-some, readings-enough}
 use Rattle.records.proofs.Counts.{same-next, same-none, vertex-more}
 
@@ -110,9 +109,5 @@ pub vertex-loop : (asks : ℕ → Bool) (kind : Kind) (first coord comp n coords
     → (s : List ℕ) → length s ≤ mostBytes → (k : ℕ) → 8 * length s ≤ k
     → vertexLoop asks (first ∷ (replicate coords coord ++ replicate n comp)) s k 0 ≡ rawReading (format kind first coord comp n) s
 vertex-loop asks kind first coord comp n coords shape readable s short k h =
-    let w = widths-readable first coord comp readable in
-    loop-reads asks (format kind first coord comp n) (replicate coords coord ++ replicate n comp) (vertex-more kind first coord comp n coords shape) (
-      w .of-first,
-      all-append Width (replicate coords coord) (replicate n comp) (all-replicate Width coords coord (w .of-coord)) (all-replicate Width n comp (w .of-comp)),
-    )
-    s short k h
+    loop-reads asks (format kind first coord comp n) (replicate coords coord ++ replicate n comp) (vertex-more kind first coord comp n coords shape)
+    (record-widths coords n (widths-readable first coord comp readable)) s short k h

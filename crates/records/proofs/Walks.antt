@@ -5,7 +5,7 @@ use mathlib.Core.Bool.{Bool, true, false}
 use mathlib.Core.List.{List, [], _∷_, _++_}
 use mathlib.Core.Option.{none}
 use native.Mathlib.Omega.{arith}
-use lib.ListN.{length, drop, replicate, length-append, length-drop, length-replicate}
+use lib.ListN.{length, drop, length-append, length-drop}
 use lib.Seq.{drop-drop}
 use Rattle.bits.specs.Bits.{stream}
 use Rattle.answers.specs.Limits.{mostComponents, mostBytes}
@@ -16,7 +16,7 @@ use Rattle.records.specs.Format.{sum, next, readings, rawReading}
 use Rattle.records.specs.Walk.{formatOf, Readable, numbersAt, widthsAfter, Standing}
 use Rattle.records.proofs.Readings.{length-numbers, readings-none, readings-on}
 use Rattle.records.proofs.Layouts.{widths-readable}
-use Rattle.records.proofs.Finding.{sum-after}
+use Rattle.records.proofs.Finding.{sum-after, length-after}
 
 -- what the tests of LAYOUT, COMPONENTS and LENGTH leave
 pub past-tests : (kind : Kind) (first coord comp n : ℕ) (s : List ℕ) → widthsReadable first coord comp ≡ true → n ≤ mostComponents → length s ≤ mostBytes
@@ -39,13 +39,7 @@ past-tests kind first coord comp n s e few short =
 pub length-record : (m : Mesh) (s : List ℕ) (p coords comps : ℕ) → length (numbersAt s p (m .first ∷ widthsAfter m coords comps)) ≡ 1 + coords + comps
 unfolding numbersAt
 length-record m s p coords comps =
-    omega (
-      arith,
-      length-numbers (m .first ∷ widthsAfter m coords comps) (drop p (stream s)),
-      length-append (replicate coords (m .coord)) (replicate comps (m .comp)),
-      length-replicate coords (m .coord),
-      length-replicate comps (m .comp),
-    )
+    omega (arith, length-numbers (m .first ∷ widthsAfter m coords comps) (drop p (stream s)), length-after m coords comps)
 
 -- ---- the records from a place on
 

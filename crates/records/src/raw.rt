@@ -1,7 +1,8 @@
 // The four raw readers: the numbers before Decode, flags included, complete records only.
 ghost use mathlib.Core.Path.{_≡_};
-ghost use Prim.Native.Nat.{_+_, _*_, _/_, _≤_};
-ghost use lib.ListN.{length, replicate};
+ghost use mathlib.Core.List.{_∷_};
+ghost use Prim.Native.Nat.{_+_, _*_, _/_, _≤_, _<_};
+ghost use lib.ListN.{length, getD, replicate};
 ghost use Rattle.lists.specs.Writing.{Written};
 ghost use Rattle.answers.specs.Outcome.{Done};
 ghost use Rattle.records.specs.declared.shape.Kind.the-variants as Kind;
@@ -152,17 +153,58 @@ fn write_rest(
     write_run(data, middle, mesh.comp, comps, out, p + coords)
 }
 
+// The width of number k of a vertex: its first number, then so many coordinates, then components.
+fn width_at(mesh: Mesh, coords: usize, k: usize) -> usize
+    requires { ⌜ k < 1 + coords + mesh .n ⌝ }
+    ensures { λ r. ⌜ r ≡ getD (mesh .first ∷ widthsAfter mesh coords (mesh .n)) k 0 ⌝ }
+{
+    if k == 0 {
+        return mesh.first;
+    }
+    if k <= coords {
+        return mesh.coord;
+    }
+    mesh.comp
+}
+
+// Writes the numbers of the vertex at a place; answers the place after them.
+fn write_vertex(
+    data: &[u8],
+    mesh: Mesh,
+    coords: usize,
+    from: BitPos,
+    out: &mut [u32],
+    p: usize,
+) -> BitPos
+    requires { ⌜ (Readable mesh (now «data»)) × (from .0 + mesh .first + (coords * mesh .coord + mesh .n * mesh .comp) ≤ 8 * length (now «data»)) × (p + (1 + coords + mesh .n) ≤ length (now out)) ⌝ }
+    ensures { λ r. ⌜ r .0 ≡ from .0 + mesh .first + (coords * mesh .coord + mesh .n * mesh .comp) ⌝ }
+    ensures { λ r. ⌜ Written (now (out .entry)) (now (out .exit)) p (numbersAt (now («data» .entry)) (from .0) (mesh .first ∷ widthsAfter mesh coords (mesh .n))) (p + (1 + coords + mesh .n)) ⌝ }
+{
+    let size = 1 + coords + mesh.n;
+    let mut at = from;
+    let mut k: usize = 0;
+    while k < size {
+        let BitRead::Number(value, next) = bits::read(data, at, width_at(mesh, coords, k)) else {
+            return at;
+        };
+        out[p + k] = value;
+        at = next;
+        k += 1;
+    }
+    at
+}
+
 // Writes all vertices, `count` numbers in all; so many coordinates follow a vertex's first number.
 fn write_vertices(data: &[u8], mesh: Mesh, coords: usize, count: usize, out: &mut [u32]) -> usize
     requires { ⌜ (Readable mesh (now «data»)) × (Vertices mesh coords) × (Whole mesh (now «data») count (now out)) ⌝ }
     ensures { λ p. ⌜ Written (now (out .entry)) (now (out .exit)) 0 (rawReading (formatOf mesh) (now («data» .entry))) p ⌝ }
 {
+    let size = 1 + coords + mesh.n;
     let mut at = BitPos(0);
     let mut p: usize = 0;
     while p < count {
-        let after = write_run(data, at, mesh.first, 1, out, p);
-        at = write_rest(data, mesh, after, coords, mesh.n, out, p + 1);
-        p += 1 + coords + mesh.n;
+        at = write_vertex(data, mesh, coords, at, out, p);
+        p += size;
     }
     p
 }

@@ -1,6 +1,5 @@
 -- `records::layout::width_is_readable` meets its contract. Assumes nothing.
 use borrow.Author.Tests.{le-leb, lt-leb}
-use borrow.Author.Needs.{needs}
 use Rattle.records.proofs.layout.width_is_readable.Statement.{statement}
 use Rattle.records.proofs.layout.width_is_readable.Tie as tie
 

@@ -5,7 +5,7 @@ use mathlib.Core.Path.{sym, _∙_}
 use native.Mathlib.Omega.{arith}
 use borrow.Author.Needs.{needs}
 use Rattle.lists.proofs.Writing.{written-length}
-use Rattle.records.proofs.Filling.{Filling, fill-start, fill-end, first-run, patch-goes-on, patch-turn, rest-there, turn-done}
+use Rattle.records.proofs.Filling.{Filling, fill-start, fill-end, first-run, patch-goes-on, patch-turn, rest-there, patch-done}
 use Rattle.records.proofs.raw.write_patches.Statement.{statement}
 use Rattle.records.proofs.raw.write_patches.Tie as tie
 
@@ -111,7 +111,7 @@ loop-again c =
     let f = j .before .before .before .before .before .before .write-run .ensures in
     let t = patch-turn w (i .loop-test .taken) (f .1) (sym (j .coords .given .1) ∙ j .before .before .shape-of .ensures) in
     let g = c .before .before .write-rest .ensures in
-    turn-done w t (f .0) (f .1) (g .0) (g .1)
+    patch-done w t (f .0) (f .1) (g .0) (g .1)
 
 same-length-2 : tie.Need-same-length-2 Inv-loop μ-loop
 same-length-2 c = c .before .loop .inv .same

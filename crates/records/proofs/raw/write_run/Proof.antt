@@ -1,25 +1,21 @@
 -- `records::raw::write_run` meets its contract: each turn writes the next number of the run, whose bits are all there. Assumes nothing.
-use Prim.Native.Nat.{_+_, _*_, _-_, _≤_}
-use mathlib.Core.Path.{_≡_, sym, _∙_}
-use native.Mathlib.Omega.{arith}
+use Prim.Native.Nat.{_-_}
+use mathlib.Core.Path.{sym, _∙_}
 use borrow.Author.Needs.{needs}
-use lib.ListN.{length, replicate}
-use Rattle.lists.specs.Writing.{Written}
-use Rattle.bits.proofs.Answers.{found, ended}
-use Rattle.records.specs.Walk.{numbersAt}
-use Rattle.records.proofs.Runs.{run-room, run-start, run-step}
+use lib.ListN.{replicate, getD-replicate}
+use Rattle.records.proofs.Readings.{sum-replicate}
+use Rattle.records.proofs.Runs.{Upto, upto-start, upto-end, upto-goes-on, upto-step, run-there}
 use Rattle.records.proofs.raw.write_run.Statement.{statement}
 use Rattle.records.proofs.raw.write_run.Tie as tie
 
 abbrev Inv-loop : tie.InvT-loop
-Inv-loop «data» width count out₀ p at₀ k₀ out at k =
-    (k ≤ count) × (at .0 ≡ at₀ .0 + k * width) × (length out ≡ length out₀) × Written out₀ out p (numbersAt «data» (at₀ .0) (replicate k width)) (p + k)
+Inv-loop «data» width count out₀ p at₀ k₀ out at k = Upto «data» (at₀ .0) (replicate count width) count out₀ out p k (at .0)
 
 abbrev μ-loop : tie.MeasureT-loop
 μ-loop «data» width count out₀ p at₀ k₀ out at k = count - k
 
 loop-holds : tie.Need-loop-holds Inv-loop μ-loop
-loop-holds c = let z = c .before .before .pre in (omega arith, omega arith, search needs, run-start _ _ (c .before .before .args .width) (omega arith))
+loop-holds c = let z = c .before .before .pre in upto-start _ _ (run-there (z .0)) (z .1)
 
 read-requires : tie.Need-read-requires Inv-loop μ-loop
 read-requires c κs = search needs
@@ -35,11 +31,10 @@ same-length c = search needs
 
 returns : tie.Need-returns Inv-loop μ-loop
 returns c =
-    let i = c .before .before .before .before in
-    let z = i .before .before .before .pre .0 in
-    let e = sym (c .enum-told .given .1) ∙ c .before .before .read .ensures in
-    let h = ended _ _ _ (z .some-bits) (z .few-bits) (omega arith) e in
-    absurd (omega (arith, run-room (i .loop .k) z (omega arith)))
+    let i = c .before .before .before in
+    absurd
+    (upto-goes-on (i .before .loop .inv) (i .loop-test .taken) (sym (getD-replicate _ _ _ 0 (i .loop-test .taken)))
+    (sym (c .enum-told .given .1) ∙ c .before .before .read .ensures))
 
 add-out : tie.Need-add-out Inv-loop μ-loop
 add-out c = search needs
@@ -59,19 +54,15 @@ loop-less c = search needs
 loop-again : tie.Need-loop-again Inv-loop μ-loop
 loop-again c =
     let g = c .before .value .given in
-    let i = c .before .before .before .before .before in
-    let z = i .before .before .before .pre .0 in
-    let f = found _ _ _ (z .some-bits) (g .0 .0) (g .0 .1 .0) (sym (g .1) ∙ c .before .before .before .read .ensures) in
-    (omega arith, omega (arith, f .next), search needs, run-step _ _ _ (i .loop .k) _ (g .0 .0) (i .loop .inv .3) (omega arith) (i .loop .inv .1) (f .value))
+    let i = c .before .before .before .before in
+    upto-step (i .before .loop .inv) (i .loop-test .taken) (sym (getD-replicate _ _ _ 0 (i .loop-test .taken))) (g .0 .0) (g .0 .1 .0)
+    (sym (g .1) ∙ c .before .before .before .read .ensures)
 
 same-length-2 : tie.Need-same-length-2 Inv-loop μ-loop
 same-length-2 c = search needs
 
 returns-2 : tie.Need-returns-2 Inv-loop μ-loop
-returns-2 c =
-    let i = c .before .loop in
-    let e : i .k ≡ c .before .before .before .before .args .count = omega arith in
-    (rw (← e) (i .inv .1), rw (← e) (i .inv .3))
+returns-2 c = let e = upto-end (c .before .loop .inv) (c .loop-test .left) in (rw sum-replicate at (e .0), e .1)
 
 pub write-run-spec : {M : Type 1} → statement M
 write-run-spec =

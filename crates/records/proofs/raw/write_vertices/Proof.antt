@@ -1,71 +1,54 @@
 -- `records::raw::write_vertices` meets its contract: while numbers are left the next vertex is whole, and a turn writes it. Assumes nothing.
 use Prim.Native.Nat.{_-_}
+use mathlib.Core.Path.{sym}
 use mathlib.Core.Bool.{Bool, true, false}
 use native.Mathlib.Omega.{arith}
 use borrow.Author.Needs.{needs}
-use Rattle.records.proofs.Filling.{Filling, fill-start, fill-end, first-run, vertex-turn, rest-there, turn-done}
+use Rattle.records.proofs.Finding.{small}
+use Rattle.records.proofs.Filling.{Filling, fill-start, fill-end, vertex-turn, turn-done}
 use Rattle.records.proofs.raw.write_vertices.Statement.{statement}
 use Rattle.records.proofs.raw.write_vertices.Tie as tie
 
 abbrev Inv-loop : tie.InvT-loop
-Inv-loop «data» mesh coords count out₀ at₀ p₀ out at p = (started : Bool) × Filling mesh «data» out₀ out count p (at .0) started
+Inv-loop «data» mesh coords count out₀ size at₀ p₀ out at p = (started : Bool) × Filling mesh «data» out₀ out count p (at .0) started
 
 abbrev μ-loop : tie.MeasureT-loop
-μ-loop «data» mesh coords count out₀ at₀ p₀ out at p = count - p
+μ-loop «data» mesh coords count out₀ size at₀ p₀ out at p = count - p
+
+add-size : tie.Need-add-size Inv-loop μ-loop
+add-size c = let z = c .before .before .pre in omega (arith, small false 0 (z .0) (sym (z .1 .shape false 0)))
+
+add-size-2 : tie.Need-add-size-2 Inv-loop μ-loop
+add-size-2 c = let z = c .before .before .before .pre in omega (arith, small false 0 (z .0) (sym (z .1 .shape false 0)))
 
 loop-holds : tie.Need-loop-holds Inv-loop μ-loop
-loop-holds c = let z = c .before .before .pre in (false, fill-start (z .0) (z .2))
+loop-holds c = let z = c .before .before .before .pre in (false, fill-start (z .0) (z .2))
 
-write-run-requires : tie.Need-write-run-requires Inv-loop μ-loop
-write-run-requires c κs = first-run (c .before .before .loop .inv .1) (c .before .loop-test .taken)
-
-add-write-rest : tie.Need-add-write-rest Inv-loop μ-loop
-add-write-rest c =
-    let i = c .before .before .before .before .before in
+write-vertex-requires : tie.Need-write-vertex-requires Inv-loop μ-loop
+write-vertex-requires c κs =
+    let i = c .before in
     let w = i .before .loop .inv .1 in
-    let t = vertex-turn w (i .loop-test .taken) (i .before .before .before .before .pre .1) in
-    omega (arith, t .room)
-
-write-rest-requires : tie.Need-write-rest-requires Inv-loop μ-loop
-write-rest-requires c κs =
-    let i = c .before .before .before .before .before in
-    let w = i .before .loop .inv .1 in
-    let t = vertex-turn w (i .loop-test .taken) (i .before .before .before .before .pre .1) in
-    let f = c .before .before .before .write-run .ensures in
-    rest-there w t (f .0) (f .1)
+    let t = vertex-turn w (i .loop-test .taken) (i .before .before .before .before .before .pre .1) in
+    (w .readable, t .standing .whole, t .room)
 
 add-p : tie.Need-add-p Inv-loop μ-loop
 add-p c =
-    let i = c .before .before .before .before .before .before .before .before in
+    let i = c .before .before .before .before in
     let w = i .before .loop .inv .1 in
-    let t = vertex-turn w (i .loop-test .taken) (i .before .before .before .before .pre .1) in
-    omega (arith, t .within, i .before .before .before .before .fits .count .fits)
-
-add-p-2 : tie.Need-add-p-2 Inv-loop μ-loop
-add-p-2 c =
-    let i = c .before .before .before .before .before .before .before .before .before in
-    let w = i .before .loop .inv .1 in
-    let t = vertex-turn w (i .loop-test .taken) (i .before .before .before .before .pre .1) in
-    omega (arith, t .within, i .before .before .before .before .fits .count .fits)
-
-add-p-3 : tie.Need-add-p-3 Inv-loop μ-loop
-add-p-3 c =
-    let i = c .before .before .before .before .before .before .before .before .before in
-    let w = i .before .loop .inv .1 in
-    let t = vertex-turn w (i .loop-test .taken) (i .before .before .before .before .pre .1) in
-    omega (arith, t .within, i .before .before .before .before .fits .count .fits)
+    let s = i .before .before .before .before .before in
+    let t = vertex-turn w (i .loop-test .taken) (s .pre .1) in
+    omega (arith, t .within, s .fits .count .fits)
 
 loop-less : tie.Need-loop-less Inv-loop μ-loop
 loop-less c = search needs
 
 loop-again : tie.Need-loop-again Inv-loop μ-loop
 loop-again c =
-    let i = c .before .before .before .before .before .before .before .before .before in
+    let i = c .before .before .before .before in
     let w = i .before .loop .inv .1 in
-    let t = vertex-turn w (i .loop-test .taken) (i .before .before .before .before .pre .1) in
-    let f = c .before .before .before .before .before .before .before .write-run .ensures in
-    let g = c .before .before .before .write-rest .ensures in
-    (true, turn-done w t (f .0) (f .1) (g .0) (g .1))
+    let t = vertex-turn w (i .loop-test .taken) (i .before .before .before .before .before .pre .1) in
+    let f = c .before .before .write-vertex .ensures in
+    (true, turn-done w t (f .0) (f .1))
 
 same-length : tie.Need-same-length Inv-loop μ-loop
 same-length c = c .before .loop .inv .1 .same
@@ -79,13 +62,11 @@ write-vertices-spec =
     (tie.spec
     Inv-loop
     μ-loop
+    add-size
+    add-size-2
     loop-holds
-    write-run-requires
-    add-write-rest
-    write-rest-requires
+    write-vertex-requires
     add-p
-    add-p-2
-    add-p-3
     loop-less
     loop-again
     same-length
