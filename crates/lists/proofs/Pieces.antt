@@ -2,10 +2,10 @@
 use Prim.Native.Nat.{ℕ, zero, suc, _+_, _-_, _*_, _≤_, _<_}
 use mathlib.Core.Path.{_≡_, refl, sym, ap, _∙_}
 use mathlib.Core.List.{List, [], _∷_, _++_, append-assoc, append-nil}
-use native.Mathlib.Nat.{add-zero, add-suc, add-sub-of-le, le-refl, zero-mul, mul-one, suc-mul}
+use native.Mathlib.Nat.{add-zero, add-suc, add-assoc, add-sub-of-le, le-refl, zero-mul, mul-one, suc-mul}
 use native.Mathlib.Numerals.{add-one}
 use native.Mathlib.Omega.{arith}
-use lib.ListN.{length, getD, take, drop, length-append, length-drop}
+use lib.ListN.{length, take, drop, length-append, length-drop}
 use lib.Seq.{take-length, take-at, drop-at, take-suc, getD-drop}
 use Rattle.lists.specs.Lists.{joined, part, flat}
 
@@ -52,6 +52,12 @@ module _ {A : Type 0} where
 
   pub part-all : (d : A) (l : List A) → part d l 0 (length l) ≡ l
   part-all d l = part-take d l 0 (length l) (omega arith) ∙ take-length l
+
+  -- two parts side by side
+  pub part-then : (d : A) (l : List A) (from j k : ℕ) → part d l from (j + k) ≡ part d l from j ++ part d l (from + j) k
+  unfolding part joined
+  part-then d l from j zero = rw (add-zero j, append-nil)
+  part-then d l from j (suc k) = rw (add-suc j k, part-then d l from j k, append-assoc, add-assoc)
 
   -- a part that is the middle of three lists
   pub part-middle : (d : A) (xs ys zs : List A) (from k : ℕ) → length xs ≡ from → length ys ≡ k → part d (xs ++ (ys ++ zs)) from k ≡ ys

@@ -4,14 +4,13 @@ use Prim.Native.Nat.{ℕ, zero, suc, _+_, _-_, _*_, _/_, _≤_, _<_}
 use mathlib.Core.Path.{_≡_, refl, sym, ap, _∙_}
 use mathlib.Core.List.{List, [], _∷_, _++_, append-nil}
 use native.Mathlib.Nat.{add-zero, add-comm, suc-mul}
-use native.Mathlib.Numerals.{add-one}
 use native.Mathlib.Omega.{arith}
-use lib.ListN.{length, getD, take, drop, replicate, length-append, length-replicate}
+use lib.ListN.{length, getD, drop, replicate, length-replicate}
 use lib.Seq.{drop-drop, take-at, drop-at}
 use lib.Ieee.{Float, nan}
 use Rattle.lists.specs.Lists.{joined, part}
-use Rattle.lists.proofs.Pieces.{joined-same, length-part, part-all}
-use Rattle.bits.specs.Bits.{number, stream, fieldAt}
+use Rattle.lists.proofs.Pieces.{joined-same, length-part, part-all, part-then}
+use Rattle.bits.specs.Bits.{stream, fieldAt}
 use Rattle.records.specs.declared.shape.Kind.the-variants.{Four, Five}
 use Rattle.records.specs.Format.{numbers, format, rawReading}
 use Rattle.records.proofs.Readings.{length-numbers}
@@ -20,7 +19,7 @@ use Rattle.rules.specs.Meshes.{flags, vertex4, vertex5}
 use Rattle.meshes.specs.Decoded as listing
 use Rattle.meshes.specs.Decoded.{decoded, decodedVertex}
 use Rattle.meshes.specs.Outcomes.{itself}
-use Rattle.meshes.proofs.Parts.{joined-first, part-second, part-of-piece, first-of-piece, part-then, count-pieces}
+use Rattle.meshes.proofs.Parts.{joined-first, part-second, part-of-piece, first-of-piece, count-pieces}
 use Rattle.meshes.proofs.RawVertices.{raw-type4, raw-type5}
 
 -- ---- numbers side by side

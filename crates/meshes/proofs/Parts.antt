@@ -1,8 +1,8 @@
 -- Pieces of the same length side by side: the first apart, and a part of one of them found again. Assumes nothing.
 use Prim.Native.Nat.{ℕ, zero, suc, _+_, _*_, _/_, _≤_, _<_}
-use mathlib.Core.Path.{_≡_, refl, sym, ap, _∙_}
+use mathlib.Core.Path.{_≡_, sym, ap}
 use mathlib.Core.List.{List, [], _∷_, _++_, append-assoc, append-nil}
-use native.Mathlib.Nat.{lt-of-not-le, add-zero, add-suc, add-assoc, mul-div-cancel}
+use native.Mathlib.Nat.{lt-of-not-le, add-assoc, mul-div-cancel}
 use native.Mathlib.Decide.{decLe}
 use native.Mathlib.Omega.{arith}
 use lib.ListN.{length, getD, List·getD-append}
@@ -52,12 +52,6 @@ module _ {A : Type 0} where
     where
       heads : (xs zs : List A) (from : ℕ) → part d xs from 1 ≡ part d zs 0 1 → getD xs (from + 0) d ≡ getD zs 0 d
       heads xs zs from e = unfold part in unfold joined in ap (λ (l : List A). getD l 0 d) e
-
-  -- two parts side by side
-  pub part-then : (d : A) (l : List A) (from j k : ℕ) → part d l from (j + k) ≡ part d l from j ++ part d l (from + j) k
-  unfolding part joined
-  part-then d l from j zero = rw (add-zero j, append-nil)
-  part-then d l from j (suc k) = rw (add-suc j k, part-then d l from j k, append-assoc, add-assoc)
 
   -- how many pieces there are
   pub count-pieces : (k m : ℕ) (f : ℕ → List A) → ((i : ℕ) → length (f i) ≡ m) → 1 ≤ m → length (joined k f) / m ≡ k

@@ -1,14 +1,14 @@
 -- The numbers of a patch record as rows: those that stand in a list, and those that stand in bits. Assumes nothing.
 use Prim.Native.Nat.{ℕ, zero, suc, _+_, _*_, _≤_, _<_}
 use mathlib.Core.Path.{_≡_, refl, sym, ap, _∙_}
-use mathlib.Core.List.{List, [], _∷_, _++_, append-assoc, append-nil}
-use native.Mathlib.Nat.{add-zero, zero-add, add-assoc, add-suc, suc-mul, zero-mul, mul-comm, mul-le-mul-right, le-of-suc-le-suc}
+use mathlib.Core.List.{List, [], _∷_, _++_, append-nil}
+use native.Mathlib.Nat.{add-zero, zero-add, add-assoc, suc-mul, zero-mul, mul-comm, mul-le-mul-right, le-of-suc-le-suc}
 use native.Mathlib.Omega.{arith}
 use lib.ListN.{length, getD, drop, replicate}
 use lib.Seq.{drop-drop, getD-drop}
 use lib.Ieee.{Float, nan}
 use Rattle.lists.specs.Lists.{joined, part, flat}
-use Rattle.lists.proofs.Pieces.{joined-same, flat-joined}
+use Rattle.lists.proofs.Pieces.{joined-same, part-then, flat-joined}
 use Rattle.bits.specs.Bits.{stream, fieldAt}
 use Rattle.decode.specs.Decode.{valueOf}
 use Rattle.colour.specs.Colour.{colourRow}
@@ -36,23 +36,11 @@ module _ {A : Type 0} (d : A) where
       joined-same k (λ (j : ℕ). getD (drop p l) (from + j) d ∷ []) (λ (j : ℕ). getD l (p + from + j) d ∷ [])
       (λ j h. ap (λ (x : A). x ∷ []) (getD-drop p l (from + j) d ∙ ap (λ (i : ℕ). getD l i d) (sym (add-assoc p from j))))
 
-  joined-add : (a b : ℕ) (f : ℕ → List A) → joined (a + b) f ≡ joined a f ++ joined b (λ (j : ℕ). f (a + j))
-  unfolding joined
-  joined-add a zero f = rw add-zero (sym (append-nil (joined a f)))
-  joined-add a (suc b) f = rw (add-suc, joined-add a b f, append-assoc)
-
-  part-add : (l : List A) (from a b : ℕ) → part d l from (a + b) ≡ part d l from a ++ part d l (from + a) b
-  unfolding part
-  part-add l from a b =
-      joined-add a b (λ (j : ℕ). getD l (from + j) d ∷ [])
-      ∙ ap (λ (r : List A). joined a (λ (j : ℕ). getD l (from + j) d ∷ []) ++ r)
-      (joined-same b _ _ (λ j h. ap (λ (i : ℕ). getD l i d ∷ []) (sym (add-assoc from a j))))
-
   -- parts side by side are one part
   pub parts-joined : (l : List A) (from k m : ℕ) → joined k (λ (i : ℕ). part d l (from + i * m) m) ≡ part d l from (k * m)
   unfolding joined
   parts-joined l from zero m = rw zero-mul (unfold part in refl)
-  parts-joined l from (suc k) m = rw (suc-mul, parts-joined l from k m) (sym (part-add l from (k * m) m))
+  parts-joined l from (suc k) m = rw (suc-mul, parts-joined l from k m) (sym (part-then d l from (k * m) m))
 
 -- ---- in a list
 

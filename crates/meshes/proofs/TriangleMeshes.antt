@@ -1,8 +1,7 @@
 -- The triangles of bytes and of a list, by the places of their vertices. Assumes nothing.
 use Prim.Native.Nat.{ℕ, _+_, _*_, _/_, _≤_, _<_}
-use mathlib.Core.Path.{_≡_, refl, sym, ap, _∙_}
+use mathlib.Core.Path.{_≡_, ap, _∙_}
 use mathlib.Core.List.{List, [], _∷_}
-use native.Mathlib.Omega.{arith}
 use lib.ListN.{length, getD}
 use lib.Ieee.{Float, nan}
 use Rattle.lists.specs.Lists.{joined, flat, All}
@@ -19,7 +18,7 @@ use Rattle.rules.proofs.Lists.{length-singles}
 use Rattle.rules.proofs.Triangles.{triangles-within, corners-same}
 use Rattle.rules.proofs.Lattice.{lattice-within}
 use Rattle.meshes.specs.Decoded.{decodedVertex}
-use Rattle.meshes.specs.Outcomes.{Finished, Stream, rawOf, rangesOf, itself, triangles4, triangles5, listed4, listed5}
+use Rattle.meshes.specs.Outcomes.{Finished, Stream, rawOf, rangesOf, triangles4, triangles5, listed4, listed5}
 use Rattle.meshes.proofs.Decoding.{count-type5, flags-type4, vertex-type4, vertex-type5, listed-type4, listed-type5}
 
 -- so many triangles, and their rows

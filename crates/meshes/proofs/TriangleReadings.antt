@@ -1,19 +1,19 @@
 -- How the ported and the published reading of triangles go together. Assumes nothing.
 use Prim.Native.Nat.{ℕ}
-use mathlib.Core.Path.{_≡_, refl, sym, ap, _∙_}
+use mathlib.Core.Path.{_≡_, ap, _∙_}
 use mathlib.Core.Logic.{_↔_}
 use mathlib.Core.List.{List, []}
 use mathlib.Core.Option.{none}
 use lib.ListN.{length}
 use lib.Ieee.{Float, nan}
 use Rattle.decode.specs.Flag.{flagOf}
-use Rattle.rules.specs.Triangles.{Tri, start, triangleBefore, lastThree, triangles}
+use Rattle.rules.specs.Triangles.{start, triangleBefore, lastThree, triangles}
 use Rattle.rules.specs.Ported.{binaryReader, listBuilder}
 use Rattle.rules.specs.Properties.{flagsUsed, NoTwoTwos}
 use Rattle.rules.specs.Meshes.{flags}
 use Rattle.rules.proofs.Ported.{binary-reader, list-builder}
 use Rattle.rules.proofs.TwoRules.{same-where, counts-equal}
-use Rattle.meshes.specs.Outcomes.{Stream, FlagRule, rawOf, itself, parsed, triangles4, parse4, built, listed4, build4}
+use Rattle.meshes.specs.Outcomes.{FlagRule, parsed, triangles4, parse4, built, listed4, build4}
 
 -- ---- from bytes
 

@@ -1,7 +1,7 @@
 -- What each reader and builder answers and leaves, for every input: document 01, "Refusal numbers" and "Records". A mesh read from bytes is Decode
 -- and the rules over the raw reading; one built from a list is the rules over the list.
 use Prim.Native.Nat.{ℕ, _/_, _+_}
-use mathlib.Core.Bool.{Bool, not}
+use mathlib.Core.Bool.{not}
 use mathlib.Core.List.{List}
 use lib.ListN.{length}
 use Rattle.lists.specs.Lists.{flat}

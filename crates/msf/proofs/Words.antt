@@ -6,11 +6,11 @@ use mathlib.Core.List.{List, [], _∷_, _++_, map, map-append, append-assoc, app
 use native.Mathlib.Nat.{add-zero}
 use native.Mathlib.Omega.{arith}
 use lib.ListN.{length, getD, take, drop}
-use lib.Seq.{take-add, take-at, drop-at, drop-drop, getD-take, getD-drop}
+use lib.Seq.{take-at, drop-at, getD-take, getD-drop}
 use lib.Ieee.{Float, nan, eq}
 use Rattle.lists.specs.Lists.{joined, part, flat}
 use Rattle.lists.specs.Writing.{Written}
-use Rattle.lists.proofs.Pieces.{joined-more, part-take, length-part, flat-more, flat-append}
+use Rattle.lists.proofs.Pieces.{joined-more, part-take, part-then, length-part, flat-more, flat-append}
 use Rattle.lists.proofs.Writing.{written-none, written-then}
 use Rattle.decode.specs.Floats.{float1}
 use Rattle.msf.specs.Text.{decimal, floatText, glyph}
@@ -19,16 +19,12 @@ use Rattle.msf.proofs.Digits.{decimal-one}
 
 -- ---- parts of a list
 
-module _ {A : Type 0} (d : A) (l : List A) (from a b : ℕ) (h : from + (a + b) ≤ length l) where
-  part-two : part d l from (a + b) ≡ part d l from a ++ part d l (from + a) b
-  part-two =
-      rw (part-take d l from (a + b) h, part-take d l from a (omega arith), part-take d l (from + a) b (omega arith), take-add, drop-drop)
-
+module _ {A : Type 0} (d : A) (l : List A) (from a b : ℕ) where
   take-part : take a (part d l from (a + b)) ≡ part d l from a
-  take-part = rw part-two (take-at (part d l from a) (part d l (from + a) b) a (length-part d l from a))
+  take-part = rw part-then (take-at (part d l from a) (part d l (from + a) b) a (length-part d l from a))
 
   drop-part : drop a (part d l from (a + b)) ≡ part d l (from + a) b
-  drop-part = rw part-two (drop-at (part d l from a) (part d l (from + a) b) a (length-part d l from a))
+  drop-part = rw part-then (drop-at (part d l from a) (part d l (from + a) b) a (length-part d l from a))
 
 part-one : {A : Type 0} (d : A) (l : List A) (from : ℕ) → part d l from 1 ≡ getD l from d ∷ []
 unfolding part joined
@@ -67,7 +63,7 @@ line-numbers : (xs : List Float) (from k : ℕ) (ws : List (List ℕ)) → from 
     → line (words xs from (1 + k) ++ ws) ≡ (floatText (getD xs from nan) ++ spaced (words xs (from + 1) k)) ++ (spaced ws ++ (10 ∷ []))
 unfolding line
 line-numbers xs from k ws h =
-    rw (part-two nan xs from 1 k h, part-one, spaced-append (words xs (from + 1) k) ws) (simp append-assoc)
+    rw (part-then nan xs from 1 k, part-one, spaced-append (words xs (from + 1) k) ws) (simp append-assoc)
 
 pub point-text : (xs : List Float) (from : ℕ) → from + 2 ≤ length xs
     → pointLine (part nan xs from 2) ≡ (floatText (getD xs from nan) ++ spaced (words xs (from + 1) 1)) ++ (10 ∷ [])
@@ -80,12 +76,11 @@ pub row-text : (xs : List Float) (coords n from : ℕ) → from + (coords + (8 +
 unfolding rowLine colourWords
 row-text xs coords n from h =
     let three : 8 + n ≡ 3 + (5 + n) = omega arith in
-    let room : from + coords + (3 + (5 + n)) ≤ length xs = omega arith in
-    let front : take 3 (part nan xs (from + coords) (8 + n)) ≡ part nan xs (from + coords) 3 = rw three (take-part nan xs (from + coords) 3 (5 + n) room) in
+    let front : take 3 (part nan xs (from + coords) (8 + n)) ≡ part nan xs (from + coords) 3 = rw three (take-part nan xs (from + coords) 3 (5 + n)) in
     let first : coords + 3 ≡ 1 + (coords + 2) = omega arith in
     let both : words xs from coords ++ words xs (from + coords) 3 ≡ words xs from (1 + (coords + 2)) =
-    sym (rw (part-two nan xs from coords 3 (omega arith), map-append) at (ap (words xs from) (sym first))) in
-    rw (take-part nan xs from coords (8 + n) h, drop-part nan xs from coords (8 + n) h, front, ← append-assoc, both)
+    sym (rw (part-then nan xs from coords 3, map-append) at (ap (words xs from) (sym first))) in
+    rw (take-part nan xs from coords (8 + n), drop-part nan xs from coords (8 + n), front, ← append-assoc, both)
     (line-numbers xs from (coords + 2) (inkWords (part nan xs (from + coords) (8 + n))) (omega arith))
 
 -- after the mark: the inks where it is 1, then the components
@@ -94,15 +89,14 @@ pub ink-words : (xs : List Float) (n from : ℕ) → from + (8 + n) ≤ length x
 unfolding inkWords
 ink-words xs n from h e =
     let four : 8 + n ≡ 4 + (4 + n) = omega arith in
-    let room : from + (4 + (4 + n)) ≤ length xs = omega arith in
-    let behind : drop 4 (part nan xs from (8 + n)) ≡ part nan xs (from + 4) (4 + n) = rw four (drop-part nan xs from 4 (4 + n) room) in
+    let behind : drop 4 (part nan xs from (8 + n)) ≡ part nan xs (from + 4) (4 + n) = rw four (drop-part nan xs from 4 (4 + n)) in
     simp (getD-part nan xs from (8 + n) 3 h (omega arith), e) (rw behind)
 
 pub no-ink-words : (xs : List Float) (n from : ℕ) → from + (8 + n) ≤ length xs → eq (getD xs (from + 3) nan) float1 ≡ false
     → inkWords (part nan xs from (8 + n)) ≡ decimal 0 ∷ words xs (from + 8) n
 unfolding inkWords
 no-ink-words xs n from h e =
-    simp (getD-part nan xs from (8 + n) 3 h (omega arith), e) (rw (drop-part nan xs from 8 n h))
+    simp (getD-part nan xs from (8 + n) 3 h (omega arith), e) (rw (drop-part nan xs from 8 n))
 
 pub marked-text : (mark : ℕ) (ws : List (List ℕ)) → mark < 10
     → spaced (decimal mark ∷ ws) ++ (10 ∷ []) ≡ (((32 ∷ []) ++ (glyph mark ∷ [])) ++ spaced ws) ++ (10 ∷ [])
