@@ -12,7 +12,7 @@ use Rattle.rules.specs.Meshes.{pointsAfter, coloursAfter}
 use Rattle.patches.specs.declared.finding.Mesh.{Mesh}
 use Rattle.patches.specs.declared.finding.Found.{Found}
 use Rattle.patches.specs.declared.finding.Found.the-variants.{Record, End}
-use Rattle.patches.specs.Source.{flagAt, sizeOf, foundAt}
+use Rattle.patches.specs.Source.{flagAt, sizeOf, recordAt, foundAt}
 
 -- ---- how much follows a flag
 
@@ -61,14 +61,9 @@ module _ (m : Mesh) (s : List ℕ) (vs : List Float) (most pos : ℕ) where
     unfolding foundAt
     found-over h = simp (← e, lt-leb f most h)
 
-    module _ (size : ℕ) (g : size ≡ sizeOf m f) (h : f ≤ most) where
-      pub found-record : pos + size ≤ m .limit → Record f (pos + size) ≡ foundAt m s vs most pos
-      unfolding foundAt
-      found-record k = simp (← e, ← g, le-leb f most h, le-leb _ _ k)
-
-      pub found-cut : m .limit < pos + size → End ≡ foundAt m s vs most pos
-      unfolding foundAt
-      found-cut k = simp (← e, ← g, le-leb f most h, lt-leb _ _ k)
+    pub found-at : f ≤ most → recordAt m f pos ≡ foundAt m s vs most pos
+    unfolding foundAt
+    found-at h = simp (← e, le-leb f most h)
 
 -- a record that is found is complete, and its flag may come
 pub record Whole (m : Mesh) (s : List ℕ) (vs : List Float) (most pos f next : ℕ) : Type 0 where

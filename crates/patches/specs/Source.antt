@@ -63,11 +63,15 @@ module _ (m : Mesh) (s : List ℕ) (vs : List Float) where
 unfoldable pub sizeOf : Mesh → ℕ → ℕ
 sizeOf m f = m .flag + (pointsAfter (m .own) f * (2 * m .coord) + coloursAfter f * (m .n * m .comp))
 
+-- the record at a place that has the given flag, if it is complete
+abbrev pub recordAt : Mesh → ℕ → ℕ → Found
+recordAt m f pos = cond (leb (pos + sizeOf m f) (m .limit)) (Record f (pos + sizeOf m f)) End
+
 -- what stands at a place, where no flag above most may come
 unfoldable pub foundAt : Mesh → List ℕ → List Float → ℕ → ℕ → Found
 foundAt m s vs most pos =
     let f : ℕ = flagAt m s vs pos in
-    cond (leb f most) (cond (leb (pos + sizeOf m f) (m .limit)) (Record f (pos + sizeOf m f)) End) End
+    cond (leb f most) (recordAt m f pos) End
 
 -- ---- a patch in the output
 

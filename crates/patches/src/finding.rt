@@ -1,9 +1,8 @@
 // The records of a mesh, one after the other: in bits, or in a list of numbers. A place is a bit or an index of the list.
 ghost use mathlib.Core.Path.{_≡_};
 ghost use Prim.Native.Nat.{_+_, _*_, _<_, _≤_};
-ghost use lib.ListN.{length};
 ghost use Rattle.rules.specs.Meshes.{pointsAfter, coloursAfter};
-ghost use Rattle.patches.specs.Source.{Fair, Usable, flagAt, sizeOf, foundAt};
+ghost use Rattle.patches.specs.Source.{Fair, Usable, flagAt, sizeOf, recordAt, foundAt};
 use bits::BitPos;
 use bits::BitRead;
 
@@ -64,7 +63,20 @@ fn record_size(mesh: Mesh, flag: usize) -> usize
     mesh.flag + (points * (2 * mesh.coord) + colours * (mesh.n * mesh.comp))
 }
 
-// Finds the record at a place, where no flag above most may come: at first 0, once there is a patch 3.
+// The record at a place that has the given flag, if it is complete.
+fn record_at(mesh: Mesh, flag: usize, pos: usize) -> Found
+    requires { ⌜ (Fair mesh) × (pos ≤ mesh .limit) ⌝ }
+    ensures { λ r. ⌜ r ≡ recordAt mesh flag pos ⌝ }
+{
+    let next = pos + record_size(mesh, flag);
+    if next > mesh.limit {
+        return Found::End; // the record is not complete
+    }
+    Found::Record(flag, next)
+}
+
+// Finds the record at a place, where no flag above most may come: at first 0, once there is a patch 3. The sizes of the two kinds of patch part at a
+// test, so that a machine which guesses the test goes on to the next record before the flag is there.
 pub fn find_record(data: &[u8], values: &[f64], mesh: Mesh, most: usize, pos: usize) -> Found
     requires { ⌜ (Usable mesh (now «data») (now values)) × (pos ≤ mesh .limit) ⌝ }
     ensures { λ r. ⌜ r ≡ foundAt mesh (now («data» .entry)) (now (values .entry)) most pos ⌝ }
@@ -73,12 +85,11 @@ pub fn find_record(data: &[u8], values: &[f64], mesh: Mesh, most: usize, pos: us
         return Found::End;
     }
     let flag = flag_at(data, values, mesh, pos);
+    if flag == 0 {
+        return record_at(mesh, 0, pos);
+    }
     if flag > most {
         return Found::End;
     }
-    let next = pos + record_size(mesh, flag);
-    if next > mesh.limit {
-        return Found::End; // the record is not complete
-    }
-    Found::Record(flag, next)
+    record_at(mesh, flag, pos)
 }

@@ -1,7 +1,8 @@
 -- `find_record` meets its contract: each test that it makes is one that the definition makes. Assumes nothing.
+use mathlib.Core.Path.{sym, _∙_}
 use native.Mathlib.Omega.{arith}
+use Rattle.patches.proofs.Found.{found-nothing, found-over, found-at}
 use borrow.Author.Needs.{needs}
-use Rattle.patches.proofs.Found.{found-nothing, found-over, found-record, found-cut}
 use Rattle.patches.proofs.finding.find_record.Statement.{statement}
 use Rattle.patches.proofs.finding.find_record.Tie as tie
 
@@ -17,36 +18,34 @@ returns c =
 flag-at-requires : tie.Need-flag-at-requires
 flag-at-requires c κs = search needs
 
+record-at-requires : tie.Need-record-at-requires
+record-at-requires c κs = search needs
+
 returns-2 : tie.Need-returns-2
 returns-2 c =
-    let c1 = c .before in
-    let c7 = c1 .before .before .before .before .before .before in
-    let a = c7 .args in
-    found-over (a .mesh) (a .data .now) (a .values .now) _ _ _ (c1 .flag-at .ensures) (c .if2 .taken)
-
-record-size-requires : tie.Need-record-size-requires
-record-size-requires c κs = search needs
-
-add-next : tie.Need-add-next
-add-next c = search needs
+    let c2 = c .before .before in
+    let c8 = c2 .before .before .before .before .before .before in
+    let a = c8 .args in
+    c .record-at .ensures
+    ∙ found-at (a .mesh) (a .data .now) (a .values .now) _ _ 0 (sym (c .before .if2 .taken) ∙ c2 .flag-at .ensures) (omega arith)
 
 returns-3 : tie.Need-returns-3
 returns-3 c =
     let c2 = c .before .before in
-    let c3 = c2 .before in
-    let c4 = c3 .before in
-    let c10 = c4 .before .before .before .before .before .before in
-    let a = c10 .args in
-    found-cut (a .mesh) (a .data .now) (a .values .now) _ _ _ (c4 .flag-at .ensures) _ (c2 .record-size .ensures .0) (c3 .if2 .left) (c .if3 .taken)
+    let c8 = c2 .before .before .before .before .before .before in
+    let a = c8 .args in
+    found-over (a .mesh) (a .data .now) (a .values .now) _ _ _ (c2 .flag-at .ensures) (c .if3 .taken)
+
+record-at-requires-2 : tie.Need-record-at-requires-2
+record-at-requires-2 c κs = search needs
 
 returns-4 : tie.Need-returns-4
 returns-4 c =
-    let c2 = c .before .before in
-    let c3 = c2 .before in
-    let c4 = c3 .before in
-    let c10 = c4 .before .before .before .before .before .before in
-    let a = c10 .args in
-    found-record (a .mesh) (a .data .now) (a .values .now) _ _ _ (c4 .flag-at .ensures) _ (c2 .record-size .ensures .0) (c3 .if2 .left) (c .if3 .left)
+    let c3 = c .before .before .before in
+    let c9 = c3 .before .before .before .before .before .before in
+    let a = c9 .args in
+    c .record-at2 .ensures
+    ∙ found-at (a .mesh) (a .data .now) (a .values .now) _ _ _ (c3 .flag-at .ensures) (c .before .if3 .left)
 
 pub find-record-spec : {M : Type 1} → statement M
 find-record-spec =
@@ -55,8 +54,8 @@ find-record-spec =
     sub-if1
     returns
     flag-at-requires
+    record-at-requires
     returns-2
-    record-size-requires
-    add-next
     returns-3
+    record-at-requires-2
     returns-4)
