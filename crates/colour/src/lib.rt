@@ -1,9 +1,8 @@
 // A colour out of its components, and its row of numbers.
 ghost use mathlib.Core.Path.{_≡_};
 ghost use mathlib.Core.List.{_++_};
-ghost use Prim.Native.Nat.{_+_, _≤_};
-ghost use lib.ListN.{length};
-ghost use Rattle.lists.specs.Writing.{Written, Offered};
+ghost use Prim.Native.Nat.{_+_};
+ghost use Rattle.lists.specs.Writing.{Offered};
 ghost use Rattle.colour.specs.Light.{clampOf, lesserOf, lightOf};
 ghost use Rattle.colour.specs.Colour.{grayOf, rgbOf, cmykOf, colourOf, colourNumbers};
 

@@ -76,9 +76,15 @@ pub fn write_all(out: &mut [f64], at: usize, values: &[f64]) -> usize
 {
     let n = values.len();
     let mut j: usize = 0;
-    while j < n {
-        out[at + j] = values[j];
-        j += 1;
+    while j + 1 < n {
+        let a = values[j];
+        let b = values[j + 1];
+        out[at + j] = a;
+        out[at + (j + 1)] = b;
+        j += 2;
+    }
+    if j < n {
+        out[at + j] = values[j]; // the last of an odd count
     }
     at + n
 }

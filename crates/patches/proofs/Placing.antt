@@ -9,20 +9,20 @@ use lib.Ieee.{Float, nan}
 use Rattle.lists.specs.Lists.{part}
 use Rattle.lists.specs.Writing.{Written}
 use Rattle.rows.specs.Rows.{Ranges, pointsAt, coloursAt, listedColours}
-use Rattle.rows.specs.Placing.{Placed, pointsFit, coloursFit, listedColoursFit, copyFits}
-use Rattle.rows.proofs.Callers.{points-written, colours-written, listedColours-written, copy-written}
+use Rattle.rows.specs.Placing.{Placed, pointsFit, coloursFit, listedColoursFit, numbersFit}
+use Rattle.rows.proofs.Callers.{points-written, colours-written, listedColours-written, numbers-written}
 use Rattle.patches.specs.declared.finding.Mesh.{Mesh}
 use Rattle.patches.specs.Source.{Usable, pointsFrom, coloursFrom}
 
 module _ {m : Mesh} {s : List ℕ} {vs : List Float} (u : Usable m s vs) (R : Ranges) (k from : ℕ) {l o : List Float} {at r : ℕ} where
   pub points-listed : m .listed ≡ true → from + k * (2 * m .coord) ≤ m .limit → at + 2 * k ≤ length l
-      → Placed (copyFits vs from (2 * k) at (length l)) l o at (part nan vs from (2 * k)) r
+      → Placed (numbersFit vs from (2 * k) at (length l)) l o at (part nan vs from (2 * k)) r
       → (r ≡ at + 2 * k) × Written l o at (pointsFrom m s vs R k from) r
   unfolding pointsFrom
   points-listed t h room p =
       let i = u .in-list t in
       let there : from + k * (2 * 1) ≤ m .limit = rw (i .2) at h in
-      rw t (copy-written vs from (2 * k) p (omega arith) room)
+      rw t (numbers-written vs from (2 * k) p (omega arith) room)
 
   pub points-read : m .listed ≡ false → k ≤ 16 → from + k * (2 * m .coord) ≤ m .limit → at + 2 * k ≤ length l
       → Placed (pointsFit s (m .coord) k from at (length l)) l o at (pointsAt s R (m .coord) k from) r

@@ -85,7 +85,7 @@ fn copy_point(out: &mut [f64], start: usize, i: usize, at: usize) -> usize
     ensures { λ r. ⌜ r ≡ at + 2 ⌝ }
     ensures { λ r. ⌜ Written (now (out .entry)) (now (out .exit)) at (pointIn (now (out .entry)) start i) r ⌝ }
 {
-    rows::copy_back(out, start + i * 2, 2, at)
+    rows::copy_point(out, start + i * 2, at)
 }
 
 fn copy_colour(out: &mut [f64], start: usize, n: usize, i: usize, at: usize) -> usize
@@ -93,7 +93,7 @@ fn copy_colour(out: &mut [f64], start: usize, n: usize, i: usize, at: usize) -> 
     ensures { λ r. ⌜ r ≡ at + (8 + n) ⌝ }
     ensures { λ r. ⌜ Written (now (out .entry)) (now (out .exit)) at (colourIn n (now (out .entry)) start i) r ⌝ }
 {
-    rows::copy_back(out, start + i * (8 + n), 8 + n, at)
+    rows::copy_colour(out, start + i * (8 + n), n, at)
 }
 
 fn copy_side_points(out: &mut [f64], start: usize, side: Side, at: usize) -> usize

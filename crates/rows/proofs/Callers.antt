@@ -8,8 +8,8 @@ use Rattle.lists.specs.Lists.{part}
 use Rattle.lists.specs.Writing.{Written}
 use Rattle.lists.proofs.Pieces.{length-part}
 use Rattle.rows.specs.Rows.{Ranges, vertexAt, pointsAt, coloursAt, listedVertex, listedColours}
-use Rattle.rows.specs.Placing.{Placed, vertexFits, pointsFit, coloursFit, listedVertexFits, listedColoursFit, copyFits, copyBackFits}
-use Rattle.rows.proofs.Fits.{vertex-fits, points-fit, colours-fit, listedVertex-fits, listedColours-fit, copy-fits, copyBack-fits}
+use Rattle.rows.specs.Placing.{Placed, vertexFits, pointsFit, coloursFit, listedVertexFits, listedColoursFit, numbersFit, copyFits}
+use Rattle.rows.proofs.Fits.{vertex-fits, points-fit, colours-fit, listedVertex-fits, listedColours-fit, numbers-fit, copy-fits}
 use Rattle.rows.proofs.Lengths.{length-vertexAt, length-pointsAt, length-coloursAt, length-listedVertex, length-listedColours}
 use Rattle.rows.proofs.Placed.{placed-sized}
 
@@ -45,13 +45,14 @@ module _ (vs : List Float) {entry exit : List Float} {at next : ℕ} where
   listedColours-written n k from d a b c e =
       placed-sized (k * (8 + n)) d (listedColours-fit vs n k from at (length entry) a b c e) (length-listedColours vs n k from) e
 
-  pub copy-written : (from count : ℕ) → Placed (copyFits vs from count at (length entry)) entry exit at (part nan vs from count) next
+  pub numbers-written : (from count : ℕ) → Placed (numbersFit vs from count at (length entry)) entry exit at (part nan vs from count) next
       → from + count ≤ length vs → at + count ≤ length entry → (next ≡ at + count) × Written entry exit at (part nan vs from count) next
-  copy-written from count d a b =
-      placed-sized count d (copy-fits vs from count at (length entry) a b) (length-part nan vs from count) b
+  numbers-written from count d a b =
+      placed-sized count d (numbers-fit vs from count at (length entry) a b) (length-part nan vs from count) b
 
-pub copyBack-written : {entry exit : List Float} {at next : ℕ} (from count : ℕ)
-    → Placed (copyBackFits from count at (length entry)) entry exit at (part nan entry from count) next → from + count ≤ at → at + count ≤ length entry
-    → (next ≡ at + count) × Written entry exit at (part nan entry from count) next
-copyBack-written {entry} {exit} {at} {next} from count d a b =
-    placed-sized count d (copyBack-fits from count at (length entry) a b) (length-part nan entry from count) b
+pub copy-written : {entry exit : List Float} {at next : ℕ} (lead n from : ℕ)
+    → Placed (copyFits lead n from at (length entry)) entry exit at (part nan entry from (lead + n)) next
+    → n ≤ 32 → from + (lead + n) ≤ at → at + (lead + n) ≤ length entry
+    → (next ≡ at + (lead + n)) × Written entry exit at (part nan entry from (lead + n)) next
+copy-written {entry} {exit} {at} {next} lead n from d a b c =
+    placed-sized (lead + n) d (copy-fits lead n from at (length entry) a b c) (length-part nan entry from (lead + n)) c

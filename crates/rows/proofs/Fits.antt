@@ -12,7 +12,7 @@ use lib.Dec.{leb}
 use lib.Ieee.{Float}
 use borrow.Author.Tests.{leb-true, le-leb, lt-leb}
 use Rattle.bits.specs.Reading.{readable}
-use Rattle.rows.specs.Placing.{fair, vertexFits, pointsFit, coloursFit, listedVertexFits, listedColoursFit, copyFits, copyBackFits}
+use Rattle.rows.specs.Placing.{fair, vertexFits, pointsFit, coloursFit, listedVertexFits, listedColoursFit, numbersFit, copyFits}
 
 -- the test without a sum
 pub leb-sub : (from size len : ℕ) → from ≤ len → leb size (len - from) ≡ leb (from + size) len
@@ -86,19 +86,19 @@ module _ (vs : List Float) (n k from at room : ℕ) where
   listedColours-there e t = simp (and-eq-true-iff, leb-iff) at (sym e ∙ t)
 
 module _ (vs : List Float) (from count at room : ℕ) where
-  pub copy-fits : from + count ≤ length vs → at + count ≤ room → copyFits vs from count at room ≡ true
-  unfolding copyFits
-  copy-fits a b = simp (and-eq-true-iff, leb-iff) (a, b)
+  pub numbers-fit : from + count ≤ length vs → at + count ≤ room → numbersFit vs from count at room ≡ true
+  unfolding numbersFit
+  numbers-fit a b = simp (and-eq-true-iff, leb-iff) (a, b)
 
-  pub copy-there : {r : Bool} → r ≡ copyFits vs from count at room → r ≡ true → from + count ≤ length vs × at + count ≤ room
+  pub numbers-there : {r : Bool} → r ≡ numbersFit vs from count at room → r ≡ true → from + count ≤ length vs × at + count ≤ room
+  unfolding numbersFit
+  numbers-there e t = simp (and-eq-true-iff, leb-iff) at (sym e ∙ t)
+
+module _ (lead n from at room : ℕ) where
+  pub copy-fits : n ≤ 32 → from + (lead + n) ≤ at → at + (lead + n) ≤ room → copyFits lead n from at room ≡ true
+  unfolding copyFits
+  copy-fits a b c = simp (and-eq-true-iff, leb-iff) (a, (b, c))
+
+  pub copy-there : {r : Bool} → r ≡ copyFits lead n from at room → r ≡ true → n ≤ 32 × (from + (lead + n) ≤ at × at + (lead + n) ≤ room)
   unfolding copyFits
   copy-there e t = simp (and-eq-true-iff, leb-iff) at (sym e ∙ t)
-
-module _ (from count at room : ℕ) where
-  pub copyBack-fits : from + count ≤ at → at + count ≤ room → copyBackFits from count at room ≡ true
-  unfolding copyBackFits
-  copyBack-fits a b = simp (and-eq-true-iff, leb-iff) (a, b)
-
-  pub copyBack-there : {r : Bool} → r ≡ copyBackFits from count at room → r ≡ true → from + count ≤ at × at + count ≤ room
-  unfolding copyBackFits
-  copyBack-there e t = simp (and-eq-true-iff, leb-iff) at (sym e ∙ t)

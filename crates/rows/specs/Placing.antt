@@ -65,9 +65,10 @@ unfoldable pub listedColoursFit : List Float → ℕ → ℕ → ℕ → ℕ →
 listedColoursFit vs n k from at room =
     leb n mostComponents && (leb k 4 && (inList vs from (k * n) && leb (at + k * (8 + n)) room))
 
--- numbers of another list; numbers of the output that all stand before at
-unfoldable pub copyFits : List Float → ℕ → ℕ → ℕ → ℕ → Bool
-copyFits vs from count at room = inList vs from count && leb (at + count) room
+-- so many numbers of another list
+unfoldable pub numbersFit : List Float → ℕ → ℕ → ℕ → ℕ → Bool
+numbersFit vs from count at room = inList vs from count && leb (at + count) room
 
-unfoldable pub copyBackFits : ℕ → ℕ → ℕ → ℕ → Bool
-copyBackFits from count at room = leb (from + count) at && leb (at + count) room
+-- the lead numbers of a row and its n components, in the output from index from on and all before index at
+unfoldable pub copyFits : ℕ → ℕ → ℕ → ℕ → ℕ → Bool
+copyFits lead n from at room = leb n mostComponents && (leb (from + (lead + n)) at && leb (at + (lead + n)) room)

@@ -1,10 +1,10 @@
 // Whether all is there that a function needs. No sum is made that a usize might not hold: places and indices may be any.
 ghost use mathlib.Core.Path.{_≡_};
 ghost use mathlib.Core.Bool.{_&&_};
-ghost use Prim.Native.Nat.{_+_, _*_};
+ghost use Prim.Native.Nat.{_+_, _*_, _≤_};
 ghost use lib.Dec.{leb};
 ghost use Rattle.bits.specs.Reading.{readable};
-ghost use Rattle.rows.specs.Placing.{inBits, fair, vertexFits, pointsFit, coloursFit, listedVertexFits, listedColoursFit, copyFits, copyBackFits};
+ghost use Rattle.rows.specs.Placing.{inBits, fair, vertexFits, pointsFit, coloursFit, listedVertexFits, listedColoursFit, numbersFit, copyFits};
 use bits::BitPos;
 
 fn width_is_readable(bits: usize) -> bool
@@ -98,14 +98,15 @@ pub fn listed_colours_fit(
     n <= 32 && (k <= 4 && (within(from, k * n, values.len()) && within(at, k * (8 + n), room)))
 }
 
-pub fn copy_fits(values: &[f64], from: usize, count: usize, at: usize, room: usize) -> bool
-    ensures { λ r. ⌜ r ≡ copyFits (now (values .entry)) from count at room ⌝ }
+pub fn numbers_fit(values: &[f64], from: usize, count: usize, at: usize, room: usize) -> bool
+    ensures { λ r. ⌜ r ≡ numbersFit (now (values .entry)) from count at room ⌝ }
 {
     within(from, count, values.len()) && within(at, count, room)
 }
 
-pub fn copy_back_fits(from: usize, count: usize, at: usize, room: usize) -> bool
-    ensures { λ r. ⌜ r ≡ copyBackFits from count at room ⌝ }
+pub fn copy_fits(lead: usize, n: usize, from: usize, at: usize, room: usize) -> bool
+    requires { ⌜ lead ≤ 10 ⌝ }
+    ensures { λ r. ⌜ r ≡ copyFits lead n from at room ⌝ }
 {
-    within(from, count, at) && within(at, count, room)
+    n <= 32 && (within(from, lead + n, at) && within(at, lead + n, room))
 }

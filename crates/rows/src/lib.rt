@@ -1,10 +1,11 @@
 // A record's numbers, from bits or from a list, decoded and written as rows into a lent output.
 // Each function that places numbers tests first that all it needs is there; else it answers at and changes nothing.
+ghost use Prim.Native.Nat.{_+_};
 ghost use lib.ListN.{length};
 ghost use lib.Ieee.{nan};
 ghost use Rattle.lists.specs.Lists.{part};
 ghost use Rattle.rows.specs.Rows.{vertexAt, pointsAt, coloursAt, listedVertex, listedColours};
-ghost use Rattle.rows.specs.Placing.{Placed, listed, Ranged, vertexFits, pointsFit, coloursFit, listedVertexFits, listedColoursFit, copyFits, copyBackFits};
+ghost use Rattle.rows.specs.Placing.{Placed, listed, Ranged, vertexFits, pointsFit, coloursFit, listedVertexFits, listedColoursFit, numbersFit, copyFits};
 use bits::BitPos;
 
 mod fitting;
@@ -118,20 +119,42 @@ pub fn list_colours(
 
 // Numbers of a list, as they are.
 pub fn copy_numbers(values: &[f64], from: usize, count: usize, out: &mut [f64], at: usize) -> usize
-    ensures { λ r. ⌜ Placed (copyFits (now (values .entry)) from count at (length (now (out .entry)))) (now (out .entry)) (now (out .exit)) at (part nan (now (values .entry)) from count) r ⌝ }
+    ensures { λ r. ⌜ Placed (numbersFit (now (values .entry)) from count at (length (now (out .entry)))) (now (out .entry)) (now (out .exit)) at (part nan (now (values .entry)) from count) r ⌝ }
 {
-    if fitting::copy_fits(values, from, count, at, out.len()) {
+    if fitting::numbers_fit(values, from, count, at, out.len()) {
         return writing::write_part(values, from, count, out, at);
     }
     at
 }
 
-// Numbers that stand in out already, before index at.
-pub fn copy_back(out: &mut [f64], from: usize, count: usize, at: usize) -> usize
-    ensures { λ r. ⌜ Placed (copyBackFits from count at (length (now (out .entry)))) (now (out .entry)) (now (out .exit)) at (part nan (now (out .entry)) from count) r ⌝ }
+// ---- what stands in out already, before index at
+
+// A point.
+pub fn copy_point(out: &mut [f64], from: usize, at: usize) -> usize
+    ensures { λ r. ⌜ Placed (copyFits 2 0 from at (length (now (out .entry)))) (now (out .entry)) (now (out .exit)) at (part nan (now (out .entry)) from 2) r ⌝ }
 {
-    if fitting::copy_back_fits(from, count, at, out.len()) {
-        return writing::copy_part(out, from, count, at);
+    if fitting::copy_fits(2, 0, from, at, out.len()) {
+        return writing::copy_point(out, from, at);
+    }
+    at
+}
+
+// The row of a colour.
+pub fn copy_colour(out: &mut [f64], from: usize, n: usize, at: usize) -> usize
+    ensures { λ r. ⌜ Placed (copyFits 8 n from at (length (now (out .entry)))) (now (out .entry)) (now (out .exit)) at (part nan (now (out .entry)) from (8 + n)) r ⌝ }
+{
+    if fitting::copy_fits(8, n, from, at, out.len()) {
+        return writing::copy_colour(out, from, n, at);
+    }
+    at
+}
+
+// The row of a vertex.
+pub fn copy_row(out: &mut [f64], from: usize, n: usize, at: usize) -> usize
+    ensures { λ r. ⌜ Placed (copyFits 10 n from at (length (now (out .entry)))) (now (out .entry)) (now (out .exit)) at (part nan (now (out .entry)) from (10 + n)) r ⌝ }
+{
+    if fitting::copy_fits(10, n, from, at, out.len()) {
+        return writing::copy_row(out, from, n, at);
     }
     at
 }

@@ -35,7 +35,7 @@ fn read_point(
     writing::write_point(px, py, out, at)
 }
 
-// The components of a colour.
+// The components of a colour, two at a time.
 fn read_components(
     data: &[u8],
     comp: usize,
@@ -52,14 +52,27 @@ fn read_components(
 {
     let mut next = place;
     let mut j: usize = 0;
-    while j < n {
-        let BitRead::Number(raw, after) = bits::read(data, next, comp) else {
+    while j + 1 < n {
+        let BitRead::Number(first, middle) = bits::read(data, next, comp) else {
             return at;
         };
-        out[at + j] = decode::decode_value(raw, scales[2 + j], mins[2 + j]);
+        let BitRead::Number(second, after) = bits::read(data, middle, comp) else {
+            return at;
+        };
+        let a = decode::decode_value(first, scales[2 + j], mins[2 + j]);
+        let b = decode::decode_value(second, scales[2 + (j + 1)], mins[2 + (j + 1)]);
+        out[at + j] = a;
+        out[at + (j + 1)] = b;
         next = after;
-        j += 1;
+        j += 2;
     }
+    if j == n {
+        return at + n;
+    }
+    let BitRead::Number(last, _) = bits::read(data, next, comp) else {
+        return at;
+    };
+    out[at + j] = decode::decode_value(last, scales[2 + j], mins[2 + j]); // of an odd count
     at + n
 }
 

@@ -1,6 +1,5 @@
 // The readers and builders of Types 4 and 5, the free-form and the lattice-form triangle mesh. One code serves both sources of vertices, bits and a
 // list of numbers, and both readings.
-ghost use mathlib.Core.Path.{_≡_};
 ghost use mathlib.Core.Bool.{false};
 ghost use mathlib.Core.List.{[]};
 ghost use mathlib.Core.Option.{none};

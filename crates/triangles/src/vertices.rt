@@ -109,7 +109,7 @@ pub fn copy_row(source: Source, from: usize, out: &mut [f64], at: usize) -> usiz
     ensures { λ r. ⌜ r ≡ at + (source .n + 10) ⌝ }
     ensures { λ r. ⌜ Written (now (out .entry)) (now (out .exit)) at (part nan (now (out .entry)) from (source .n + 10)) r ⌝ }
 {
-    rows::copy_back(out, from, source.n + 10, at)
+    rows::copy_row(out, from, source.n, at)
 }
 
 // The same row as write_vertex, copied from index `from` of out where it stands there already. Where it stands nowhere, `from` is `at`.

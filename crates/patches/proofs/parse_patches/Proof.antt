@@ -1,7 +1,6 @@
 -- `parse_patches` meets its contract: at each `return` the tests that led there say which outcome it is. Assumes nothing.
 use mathlib.Core.Path.{_≡_, sym, _∙_}
 use mathlib.Core.Bool.{true, false}
-use native.Mathlib.Omega.{arith}
 use borrow.Author.Tests.{lt-ltb, le-ltb, not-true, not-false}
 use borrow.Author.Needs.{needs}
 use lib.ListN.{length}

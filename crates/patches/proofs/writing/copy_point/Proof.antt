@@ -2,19 +2,19 @@
 use Prim.Native.Nat.{_+_, _*_}
 use native.Mathlib.Omega.{arith}
 use borrow.Author.Needs.{needs}
-use Rattle.rows.proofs.Callers.{copyBack-written}
+use Rattle.rows.proofs.Callers.{copy-written}
 use Rattle.patches.specs.Source.{pointIn}
 use Rattle.patches.proofs.writing.copy_point.Statement.{statement}
 use Rattle.patches.proofs.writing.copy_point.Tie as tie
 
-mul-copy-back : tie.Need-mul-copy-back
-mul-copy-back c = search needs
+mul-copy-point : tie.Need-mul-copy-point
+mul-copy-point c = search needs
 
-add-copy-back : tie.Need-add-copy-back
-add-copy-back c = search needs
+add-copy-point : tie.Need-add-copy-point
+add-copy-point c = search needs
 
-copy-back-requires : tie.Need-copy-back-requires
-copy-back-requires c κs = search needs
+copy-point-requires : tie.Need-copy-point-requires
+copy-point-requires c κs = search needs
 
 same-length : tie.Need-same-length
 same-length c = search needs
@@ -25,8 +25,8 @@ returns c =
     let c2 = c .before .before in
     let c5 = c2 .before .before .before in
     let a = c5 .args in
-    copyBack-written (a .start + a .i * 2) 2 (c2 .copy-back .ensures) (omega arith) (omega arith)
+    copy-written 2 0 (a .start + a .i * 2) (c2 .copy-point .ensures) (omega arith) (omega arith) (omega arith)
 
 pub copy-point-spec : {M : Type 1} → statement M
 copy-point-spec =
-    tie.close (tie.spec mul-copy-back add-copy-back copy-back-requires same-length returns)
+    tie.close (tie.spec mul-copy-point add-copy-point copy-point-requires same-length returns)

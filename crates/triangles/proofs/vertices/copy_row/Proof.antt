@@ -1,20 +1,25 @@
 -- `triangles::vertices::copy_row` meets its contract: the row is copied inside `out`. Assumes nothing.
-use Rattle.rows.proofs.Callers.{copyBack-written}
+use Prim.Native.Nat.{_+_}
+use mathlib.Core.Path.{_≡_}
+use native.Mathlib.Omega.{arith}
+use Rattle.rows.proofs.Callers.{copy-written}
 use borrow.Author.Needs.{needs}
 use Rattle.triangles.proofs.vertices.copy_row.Statement.{statement}
 use Rattle.triangles.proofs.vertices.copy_row.Tie as tie
 
-add-copy-back : tie.Need-add-copy-back
-add-copy-back c = search needs
-
-copy-back-requires : tie.Need-copy-back-requires
-copy-back-requires c κs = search needs
+copy-row-requires : tie.Need-copy-row-requires
+copy-row-requires c κs = search needs
 
 same-length : tie.Need-same-length
 same-length c = search needs
 
 returns : tie.Need-returns
-returns c = let a = c .before .before .before .before .before .before in copyBack-written (a .args .from) _ (c .before .before .copy-back .ensures) (a .pre .1) (a .pre .2)
+returns c =
+    let c2 = c .before .before in
+    let c5 = c2 .before .before .before in
+    let n = c5 .args .source .n in
+    let e : 10 + n ≡ n + 10 = omega arith in
+    rw e at (copy-written 10 n (c5 .args .from) (c2 .copy-row .ensures) (c5 .pre .0) (omega arith) (omega arith))
 
 pub copy-row-spec : {M : Type 1} → statement M
-copy-row-spec = tie.close (tie.spec add-copy-back copy-back-requires same-length returns)
+copy-row-spec = tie.close (tie.spec copy-row-requires same-length returns)
