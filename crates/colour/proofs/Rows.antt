@@ -8,7 +8,7 @@ use lib.Ieee.{Float}
 use Rattle.colour.specs.declared.DeviceColor.{DeviceColor}
 use Rattle.colour.specs.declared.Inks.{Inks}
 use Rattle.colour.specs.declared.Inks.the-variants.{None, Cmyk}
-use Rattle.colour.specs.Colour.{inkNumbers, colourNumbers, colourOf, colourRow}
+use Rattle.colour.specs.Colour.{inkNumbers, colourNumbers}
 
 five : (i : Inks) → length (inkNumbers i) ≡ 5
 five None = refl

@@ -1,21 +1,19 @@
 -- Each of r, g and b is NaN or within 0..1: `colour-within`. Where there are four components none of them is NaN. Assumes nothing.
 use mathlib.Core.Path.{_≡_, refl, sym, ap, _∙_, subst}
-use mathlib.Core.Bool.{Bool, true, false, not, cond, _&&_, _||_}
+use mathlib.Core.Bool.{Bool, true, false, cond, _&&_, _||_}
 use mathlib.Core.List.{List, [], _∷_}
-use Prim.Native.Nat.{ℕ, _+_, _-_, _*_, _^_, _≤_, _<_}
-use native.Mathlib.Nat.{mul-pos, zero-mul, mul-one, sub-zero}
+use Prim.Native.Nat.{ℕ, _+_, _-_, _*_, _≤_, _<_}
+use native.Mathlib.Nat.{mul-pos, zero-mul}
 use native.Mathlib.Omega.{arith}
-use lib.IntN.{pos}
-use lib.Dec.{T, ltb, eqb, leb, ltb→lt, eqb→eq, nltb→le}
+use lib.Dec.{T, ltb, eqb, ltb→lt, eqb→eq}
 use borrow.Author.Tests.{ltb-false, lt-ltb, le-ltb, eq-eqb}
 use lib.Ieee.{Float, nan, inf, fin, binary64, up, down, round, sum, add, sub, neg, lt, eq, le, isNan}
-use lib.Ieee.Exact.{HasValue}
-use lib.Ieee.Fits.{down-pos, and-i, and-l, and-r}
+use lib.Ieee.Fits.{down-pos, and-i, and-l}
 use lib.Ieee.Order.{le-of-values, round-mono}
 use lib.Ieee.Scale.{round-same}
 use Rattle.decode.specs.Floats.{float0, float1}
 use Rattle.colour.specs.Light.{clampOf, lesserOf, lightOf, within}
-use Rattle.colour.specs.Colour.{grayOf, rgbOf, cmykOf, colourOf}
+use Rattle.colour.specs.Colour.{colourOf}
 
 -- ---- small things
 yes : (b : Bool) → b ≡ true → T b

@@ -1,13 +1,13 @@
 -- A Decode range of 0 to 2 ^ w - 1 gives the raw number itself: `exact`, once over w. Assumes nothing.
 -- Each step works on a value of size n / 1 (`HasValue x false n 1`), and `round-same` takes the operation's fraction back to n / 1.
-use mathlib.Core.Path.{_≡_, refl, sym, ap, _∙_, subst}
-use mathlib.Core.Bool.{Bool, true, false, cond, _&&_}
-use Prim.Native.Nat.{ℕ, zero, suc, _+_, _-_, _*_, _^_, _≤_, _<_}
-use native.Mathlib.Nat.{mul-one, one-mul, sub-zero, mul-pos, zero-mul, zero-add, le-trans, mul-comm}
+use mathlib.Core.Path.{_≡_, refl, ap, _∙_, subst}
+use mathlib.Core.Bool.{true, false}
+use Prim.Native.Nat.{ℕ, _+_, _-_, _*_, _^_, _≤_, _<_}
+use native.Mathlib.Nat.{mul-one, one-mul, sub-zero, mul-pos, zero-mul, zero-add, mul-comm}
 use native.Mathlib.Omega.{arith}
 use lib.IntN.{pos}
-use lib.Dec.{T, leb, ltb, eqb, le→leb}
-use lib.Pow.{pow-mono, pow-pos}
+use lib.Dec.{T}
+use lib.Pow.{pow-mono}
 use borrow.Author.Tests.{le-ltb, le-leb, ne-eqb}
 use lib.Ieee.{Float, nan, inf, fin, binary64, up, down, round, sum, add, sub, mul, div, neg, ofInt}
 use lib.Ieee.Exact.{HasValue}

@@ -14,7 +14,6 @@ use Rattle.bits.specs.Reading.{readAt}
 use Rattle.decode.specs.Flag.{flagOf}
 use Rattle.colour.specs.declared.DeviceColor.{DeviceColor}
 use Rattle.colour.specs.Colour.{colourOf}
-use Rattle.records.specs.declared.layout.FlagWidth.{FlagWidth}
 use Rattle.records.specs.declared.layout.FlagWidth.the-variants.{Absent, Bits}
 use Rattle.records.specs.Layout.{layoutReadable}
 use Rattle.records.specs.declared.shape.Kind.the-variants.{Four, Five}

@@ -19,7 +19,6 @@ use Rattle.records.specs.Format.{format, rawReading}
 use Rattle.records.specs.Raw.{rawRead}
 use Rattle.records.proofs.Layouts.{widths-readable}
 use Rattle.records.proofs.Readings.{cut-begins}
-use Rattle.packing.specs.Bytes.{bytes}
 use Rattle.packing.specs.Writer.{rawWrite}
 use Rattle.packing.proofs.Filling.{length-bytes}
 use Rattle.packing.proofs.Accepting.{accepted-bits}

@@ -11,7 +11,7 @@ use lib.ListN.{length}
 use Rattle.answers.specs.declared.Refusal.{Refusal}
 use Rattle.answers.specs.declared.Refusal.the-variants.{Layout, Components, Length, Room, Thin}
 use Rattle.answers.specs.Limits.{mostComponents, mostNumbers}
-use Rattle.answers.specs.Outcome.{Outcome, refused, wrote, refuseIf, fitted}
+use Rattle.answers.specs.Outcome.{Outcome, wrote, refuseIf, fitted}
 use Rattle.records.specs.declared.shape.Kind.{Kind}
 use Rattle.records.specs.Layout.{widthsReadable}
 use Rattle.records.specs.Format.{format}

@@ -1,6 +1,6 @@
 -- The count of the triangles that the vertices so far have given. Assumes nothing.
 use Prim.Native.Nat.{ℕ, zero, suc, _+_, _≤_, _<_}
-use mathlib.Core.Path.{_≡_, refl, sym, ap, _∙_, subst}
+use mathlib.Core.Path.{_≡_, refl, sym, ap, _∙_}
 use mathlib.Core.Logic.{_⊎_, inl, inr, ⊎-elim}
 use mathlib.Core.List.{List, [], _∷_, _++_}
 use mathlib.Core.Option.{Option, none, some}
@@ -10,7 +10,7 @@ use native.Mathlib.Decide.{decLe}
 use lib.ListN.{length, getD, length-append, List·getD-append}
 use lib.Seq.{getD-at}
 use Rattle.lists.specs.Lists.{joined}
-use Rattle.rules.specs.Triangles.{Tri, tri, Rule, triangleBefore, triangles}
+use Rattle.rules.specs.Triangles.{Tri, tri, triangleBefore, triangles}
 use Rattle.rules.proofs.Lists.{length-singles}
 use Rattle.rules.proofs.Walks.{Walk, keptOf, walk-start, walk-end, walk-first, walk-cut, walk-bc, walk-ac, walk-alone, walk-far, walk-none, walk-some}
 

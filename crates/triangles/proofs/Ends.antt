@@ -1,14 +1,13 @@
 -- How calls of the readers and builders end, where nothing refuses them but ROOM. Assumes nothing.
-use Prim.Native.Nat.{ℕ, _+_, _-_, _*_, _/_, _^_, _≤_, _<_}
+use Prim.Native.Nat.{ℕ, _+_, _-_, _*_, _/_, _≤_}
 use mathlib.Core.Path.{_≡_, refl, sym, ap, _∙_}
-use mathlib.Core.Bool.{Bool, true, false, cond, and-eq-true-iff}
-use mathlib.Core.Logic.{_⊎_, inl, inr}
-use mathlib.Core.List.{List, [], _∷_}
+use mathlib.Core.Bool.{Bool, true, false, and-eq-true-iff}
+use mathlib.Core.List.{List}
 use native.Mathlib.Omega.{arith}
-use native.Mathlib.Nat.{zero-add, add-zero, mul-le-mul, div-mul-le-self}
+use native.Mathlib.Nat.{zero-add, add-zero, div-mul-le-self}
 use lib.ListN.{length}
 use lib.Ieee.{Float}
-use Rattle.lists.specs.Lists.{joined, flat}
+use Rattle.lists.specs.Lists.{flat}
 use Rattle.lists.proofs.Pieces.{flat-same}
 use Rattle.answers.specs.declared.Answer.{Answer}
 use Rattle.answers.specs.Limits.{mostComponents, mostBytes, mostNumbers}
@@ -21,13 +20,13 @@ use Rattle.records.proofs.Layouts.{Widths, widths-readable}
 use Rattle.rows.specs.Rows.{Ranges, ranges, vertexAt, listedVertex}
 use Rattle.rows.specs.Placing.{listed, Ranged}
 use Rattle.rows.proofs.Listed.{vertex-ranges}
-use Rattle.rules.specs.Triangles.{Tri, Rule, triangleBefore, triangles, corners}
+use Rattle.rules.specs.Triangles.{Tri, triangleBefore, triangles, corners}
 use Rattle.rules.specs.Lattice.{lattice}
 use Rattle.meshes.specs.Outcomes.{Finished, Stream, triangles4, triangles5, listed4, listed5, parse4, parse5, build4, build5}
 use Rattle.meshes.proofs.Endings.{accepted, list-accepted}
 use Rattle.meshes.proofs.TriangleMeshes.{finished, mesh-of-type4, mesh-of-type5, mesh-of-list4, mesh-of-list5}
 use Rattle.triangles.specs.declared.vertices.Source.{Source}
-use Rattle.triangles.specs.Sources.{bitsSource, listSource, Sound, Flagged, flagIn, rowIn, ruleOf, trianglesIn}
+use Rattle.triangles.specs.Sources.{bitsSource, listSource, Sound, flagIn, rowIn, ruleOf, trianglesIn}
 
 -- ---- sources
 

@@ -1,11 +1,11 @@
 -- Where vertices lie, that their places can be counted, and how long their rows are. Assumes nothing.
-use Prim.Native.Nat.{ℕ, zero, suc, _+_, _*_, _^_, _≤_, _<_}
-use mathlib.Core.Path.{_≡_, refl, sym, ap, _∙_}
+use Prim.Native.Nat.{ℕ, _+_, _*_, _^_, _≤_, _<_}
+use mathlib.Core.Path.{_≡_, refl, sym, _∙_}
 use mathlib.Core.Bool.{Bool, true, false, cond}
-use mathlib.Core.List.{List, [], _∷_, _++_}
+use mathlib.Core.List.{List}
 use native.Mathlib.Omega.{arith}
 use native.Mathlib.Nat.{mul-le-mul, mul-le-mul-left, mul-le-mul-right, suc-mul}
-use lib.ListN.{length, getD, length-append}
+use lib.ListN.{length, getD}
 use lib.Ieee.{Float, nan}
 use Rattle.lists.specs.Writing.{Written}
 use Rattle.bits.specs.declared.BitPos.{BitPos}
@@ -19,7 +19,7 @@ use Rattle.rows.specs.Placing.{Placed, vertexFits, listedVertexFits}
 use Rattle.rows.proofs.Callers.{vertex-written, listedVertex-written}
 use Rattle.rows.proofs.Lengths.{length-vertexAt, length-listedVertex}
 use Rattle.triangles.specs.declared.vertices.Source.{Source}
-use Rattle.triangles.specs.Sources.{InBits, InList, Sound, Flagged, flagIn, rowIn}
+use Rattle.triangles.specs.Sources.{Sound, Flagged, flagIn, rowIn}
 
 ends-within : (i size total room : ℕ) → i < total → total * size ≤ room → i * size + size ≤ room
 ends-within i size total room h w = omega (arith, mul-le-mul-right size h, suc-mul i size)

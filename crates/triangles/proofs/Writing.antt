@@ -1,12 +1,12 @@
 -- The rows of the triangles that the vertices so far have given, and where the three stand from which to go on. Assumes nothing.
-use Prim.Native.Nat.{ℕ, zero, suc, _+_, _-_, _*_, _≤_, _<_}
-use mathlib.Core.Path.{_≡_, refl, sym, ap, _∙_}
+use Prim.Native.Nat.{ℕ, _+_, _-_, _*_, _≤_, _<_}
+use mathlib.Core.Path.{_≡_, refl, sym, _∙_}
 use mathlib.Core.Bool.{Bool, true, false, _&&_, cond}
 use mathlib.Core.List.{List, [], _∷_, _++_, append-nil, append-assoc}
 use mathlib.Core.Option.{Option, none, some}
-use mathlib.Core.Logic.{_⊎_, inl, inr, ⊎-elim}
+use mathlib.Core.Logic.{_⊎_, ⊎-elim}
 use native.Mathlib.Omega.{arith}
-use native.Mathlib.Nat.{mul-le-mul-right, zero-add, zero-mul}
+use native.Mathlib.Nat.{mul-le-mul-right, zero-add}
 use lib.ListN.{length, length-append}
 use lib.Dec.{eqb}
 use lib.Ieee.{Float, nan}
@@ -14,7 +14,7 @@ use Rattle.lists.specs.Lists.{part, flat}
 use Rattle.lists.specs.Writing.{Written}
 use Rattle.lists.proofs.Pieces.{length-flat, flat-more}
 use Rattle.lists.proofs.Writing.{written-length, written-none, written-then, written-part, part-before}
-use Rattle.rules.specs.Triangles.{Tri, tri, Rule, triangleBefore, lastThree, triangles, corners}
+use Rattle.rules.specs.Triangles.{Tri, tri, Rule, triangles, corners}
 use Rattle.rules.proofs.Walks.{Walk, keptOf, walk-start, walk-end, walk-first, walk-cut, walk-bc, walk-ac, walk-alone, walk-far, walk-room}
 use Rattle.rules.proofs.TwoRules.{counts-equal}
 use Rattle.triangles.specs.declared.vertices.Source.{Source}

@@ -1,5 +1,4 @@
 -- `colour::lesser` meets its contract. Assumes nothing.
-use mathlib.Core.Path.{sym}
 use lib.Ieee.{ofBits}
 use Rattle.colour.proofs.lesser.Statement.{statement}
 use Rattle.colour.proofs.lesser.Tie as tie

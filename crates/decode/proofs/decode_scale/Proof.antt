@@ -1,7 +1,7 @@
 -- `decode::decode_scale` meets its contract. A width up to 32 leaves 2 ^ w whole in a u64, and 2 ^ w - 1 is a whole number that an f64 counts. Assumes nothing.
 use borrow.Author.Needs.{needs}
 use borrow.Author.Tests.{le-leb, lt-leb}
-use mathlib.Core.Path.{_≡_, subst, sym, ap, _∙_}
+use mathlib.Core.Path.{_≡_, ap, _∙_}
 use Prim.Native.Nat.{ℕ, _-_, _*_, _%_, _^_, _≤_}
 use native.Mathlib.Nat.{mod-eq-of-lt, one-mul}
 use native.Mathlib.Omega.{arith}

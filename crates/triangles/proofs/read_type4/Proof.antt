@@ -1,6 +1,5 @@
 -- `triangles::read_type4` meets its contract: each refusal in its order, then the core over the bits, whose rows are those of Decode. Assumes nothing.
 use mathlib.Core.Path.{sym, _∙_}
-use native.Mathlib.Omega.{arith}
 use borrow.Author.Tests.{not-true, not-false}
 use Rattle.records.specs.declared.layout.FlagWidth.the-variants.{Bits}
 use Rattle.meshes.proofs.Endings.{unreadable, many-components, too-long}

@@ -1,6 +1,5 @@
 -- `triangles::lattice_form::back_from` meets its contract: a place before, or nowhere. Assumes nothing.
 use native.Mathlib.Omega.{arith}
-use borrow.Author.Needs.{needs}
 use Rattle.triangles.proofs.lattice_form.back_from.Statement.{statement}
 use Rattle.triangles.proofs.lattice_form.back_from.Tie as tie
 

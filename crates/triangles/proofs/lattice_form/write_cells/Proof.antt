@@ -1,6 +1,5 @@
 -- `triangles::lattice_form::write_cells` meets its contract: after c turns c cells stand in `out`, and the next finds its rows among them. Assumes nothing.
 use Prim.Native.Nat.{ℕ, _+_, _-_, _≤_}
-use mathlib.Core.Path.{sym, _∙_}
 use mathlib.Core.List.{List}
 use native.Mathlib.Omega.{arith}
 use lib.Ieee.{Float}
@@ -10,7 +9,6 @@ use Rattle.triangles.specs.declared.vertices.Source.{Source}
 use Rattle.triangles.specs.Sources.{rowIn}
 use Rattle.triangles.proofs.Sources.{length-in, total-small}
 use Rattle.triangles.proofs.Cells.{Cells, cells-start, band-enough, cells-enough, cells-place, cells-room, cells-more, cells-done, stands-or, stands-above, stands-left, stands-below}
-use borrow.Author.Needs.{needs}
 use Rattle.triangles.proofs.lattice_form.write_cells.Statement.{statement}
 use Rattle.triangles.proofs.lattice_form.write_cells.Tie as tie
 

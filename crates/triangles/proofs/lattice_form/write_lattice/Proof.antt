@@ -10,7 +10,6 @@ use Rattle.triangles.specs.declared.vertices.Source.{Source}
 use Rattle.triangles.specs.Sources.{rowIn}
 use Rattle.triangles.proofs.Sources.{length-in, total-small}
 use Rattle.triangles.proofs.Cells.{Bands, bands-start, bands-room, bands-more, bands-above}
-use borrow.Author.Needs.{needs}
 use Rattle.triangles.proofs.lattice_form.write_lattice.Statement.{statement}
 use Rattle.triangles.proofs.lattice_form.write_lattice.Tie as tie
 
