@@ -7,12 +7,15 @@ mod stream;
 mod timing;
 
 fn main() {
-    let only = std::env::args().nth(1);
-    let wanted = |name: &str| only.as_deref().is_none_or(|o| o == name);
-    if wanted("meshes") {
-        meshes::print();
-    }
-    if wanted("raw") {
-        raw::print();
+    let words: Vec<String> = std::env::args().skip(1).collect();
+    match words.first().map(String::as_str) {
+        None => {
+            meshes::print();
+            raw::print();
+        }
+        Some("meshes") => meshes::print(),
+        Some("raw") => raw::print(),
+        Some("input") => meshes::print_input(&words[1..]),
+        Some(other) => panic!("benchmark [meshes|raw], not {other}"),
     }
 }

@@ -1,11 +1,12 @@
 //! The eight ported functions beside the original on the same input: parse and drop of its result. A copy of the output is the limit that
-//! no reader can pass.
+//! no reader can pass. Each input is timed in a process of its own: what the allocator kept from another would change the original's time.
 
 use crate::stream;
 use crate::timing::{medians, summary};
 use rows::{Call, Source};
 use station::{build, parse, Kind, Layout, MeshKind, Reading, Refusal};
 use std::hint::black_box;
+use std::process::Command;
 
 const KINDS: [Kind; 4] = [Kind::Type4, Kind::Type5, Kind::Type6, Kind::Type7];
 
@@ -24,6 +25,22 @@ const LISTS: [usize; 2] = [1_000, 1 << 20];
 
 /// The bars are for up to so many components.
 const BARRED: usize = 4;
+
+/// What a mesh is read from: bits of the given widths, or a list of numbers.
+#[derive(Clone, Copy)]
+enum Form {
+    Stream(usize, usize, usize),
+    List,
+}
+
+/// One input to time.
+#[derive(Clone, Copy)]
+struct Input {
+    kind: Kind,
+    form: Form,
+    components: usize,
+    size: usize,
+}
 
 /// A measured function: its time as a share of the original's, and of a copy's.
 struct Share {
@@ -101,74 +118,155 @@ fn measure(
     }
 }
 
-fn streams(kind: Kind, shares: &mut Vec<Share>) {
-    for (coordinate, component, flag) in WIDTHS {
-        for components in COMPONENTS {
-            let l = Layout {
-                coordinate,
-                component,
-                flag,
-                components,
-            };
-            let decode: Vec<f64> = [[-100.0, 100.0], [-50.0, 50.0]]
-                .into_iter()
-                .chain(std::iter::repeat_n([0.0, 1.0], components))
-                .flatten()
-                .collect();
-            let found = STREAMS.map(|size| {
-                let data = stream::bytes(kind, l, size);
-                let call = Call {
-                    kind: original_kind(kind),
-                    components,
-                    source: Source::Binary {
-                        data: &data,
-                        coordinate,
-                        component,
-                        flag,
-                        decode: &decode,
-                    },
+fn measure_stream(kind: Kind, l: Layout, size: usize) -> Share {
+    let decode: Vec<f64> = [[-100.0, 100.0], [-50.0, 50.0]]
+        .into_iter()
+        .chain(std::iter::repeat_n([0.0, 1.0], l.components))
+        .flatten()
+        .collect();
+    let data = stream::bytes(kind, l, size);
+    let call = Call {
+        kind: original_kind(kind),
+        components: l.components,
+        source: Source::Binary {
+            data: &data,
+            coordinate: l.coordinate,
+            component: l.component,
+            flag: l.flag,
+            decode: &decode,
+        },
+    };
+    measure(kind, call, &mut |out| {
+        parse(
+            Reading::Ported,
+            mesh_kind(kind),
+            black_box(&data),
+            l,
+            &decode,
+            out,
+        )
+    })
+}
+
+fn measure_list(kind: Kind, components: usize, size: usize) -> Share {
+    let values = stream::numbers(kind, components, size);
+    let call = Call {
+        kind: original_kind(kind),
+        components,
+        source: Source::List(&values),
+    };
+    measure(kind, call, &mut |out| {
+        build(
+            Reading::Ported,
+            mesh_kind(kind),
+            black_box(&values),
+            components,
+            out,
+        )
+    })
+}
+
+impl Input {
+    fn measure(self) -> Share {
+        match self.form {
+            Form::Stream(coordinate, component, flag) => {
+                let l = Layout {
+                    coordinate,
+                    component,
+                    flag,
+                    components: self.components,
                 };
-                measure(kind, call, &mut |out| {
-                    parse(
-                        Reading::Ported,
-                        mesh_kind(kind),
-                        black_box(&data),
-                        l,
-                        &decode,
-                        out,
-                    )
-                })
-            });
-            print_line(
-                &format!("{coordinate}/{component}/{flag}"),
-                components,
-                &found,
-            );
-            shares.extend(found);
+                measure_stream(self.kind, l, self.size)
+            }
+            Form::List => measure_list(self.kind, self.components, self.size),
+        }
+    }
+
+    /// The words that say this input to another process.
+    fn words(self) -> [String; 6] {
+        let kind = KINDS
+            .iter()
+            .position(|&k| k == self.kind)
+            .expect("one of the four");
+        let (coordinate, component, flag) = match self.form {
+            Form::Stream(coordinate, component, flag) => (coordinate, component, flag),
+            Form::List => (0, 0, 0),
+        };
+        [
+            kind,
+            coordinate,
+            component,
+            flag,
+            self.components,
+            self.size,
+        ]
+        .map(|n| n.to_string())
+    }
+
+    fn of_words(words: &[String]) -> Input {
+        let numbers: Vec<usize> = words.iter().map(|w| w.parse().expect("a number")).collect();
+        let [kind, coordinate, component, flag, components, size] = numbers[..] else {
+            panic!("six numbers");
+        };
+        let form = match coordinate {
+            0 => Form::List,
+            _ => Form::Stream(coordinate, component, flag),
+        };
+        Input {
+            kind: KINDS[kind],
+            form,
+            components,
+            size,
+        }
+    }
+
+    /// Measures in a process of its own.
+    fn measure_apart(self) -> Share {
+        let program = std::env::current_exe().expect("this program");
+        let run = Command::new(program)
+            .arg("input")
+            .args(self.words())
+            .output()
+            .expect("runs itself");
+        assert!(
+            run.status.success(),
+            "{}",
+            String::from_utf8_lossy(&run.stderr)
+        );
+        let said = String::from_utf8(run.stdout).expect("text");
+        let mut shares = said.split_whitespace().map(|w| w.parse().expect("a share"));
+        let mut next = || shares.next().expect("two shares");
+        Share {
+            components: self.components,
+            original: next(),
+            copy: next(),
         }
     }
 }
 
-fn lists(kind: Kind, shares: &mut Vec<Share>) {
+/// Measures the one input that the words say, and prints its two shares.
+pub fn print_input(words: &[String]) {
+    let share = Input::of_words(words).measure();
+    println!("{} {}", share.original, share.copy);
+}
+
+/// Measures and prints a row for each count of components: two sizes of the same input.
+fn print_rows(kind: Kind, form: Form, sizes: [usize; 2], shares: &mut Vec<Share>) {
+    let name = match form {
+        Form::Stream(coordinate, component, flag) => format!("{coordinate}/{component}/{flag}"),
+        Form::List => "list".to_string(),
+    };
     for components in COMPONENTS {
-        let found = LISTS.map(|size| {
-            let values = stream::numbers(kind, components, size);
-            let call = Call {
-                kind: original_kind(kind),
+        let found = sizes.map(|size| {
+            Input {
+                kind,
+                form,
                 components,
-                source: Source::List(&values),
-            };
-            measure(kind, call, &mut |out| {
-                build(
-                    Reading::Ported,
-                    mesh_kind(kind),
-                    black_box(&values),
-                    components,
-                    out,
-                )
-            })
+                size,
+            }
+            .measure_apart()
         });
-        print_line("list", components, &found);
+        print_line(&name, components, &found);
         shares.extend(found);
     }
 }
@@ -201,13 +299,16 @@ pub fn print() {
     for kind in KINDS {
         println!("{kind:?} from bytes: widths, components; streams of 1 and 16 MiB");
         let mut shares = Vec::new();
-        streams(kind, &mut shares);
+        for (coordinate, component, flag) in WIDTHS {
+            let form = Form::Stream(coordinate, component, flag);
+            print_rows(kind, form, STREAMS, &mut shares);
+        }
         print_summary(&shares);
     }
     for kind in KINDS {
         println!("{kind:?} from a list: components; lists of 1,000 and 1,048,576 numbers");
         let mut shares = Vec::new();
-        lists(kind, &mut shares);
+        print_rows(kind, Form::List, LISTS, &mut shares);
         print_summary(&shares);
     }
 }
