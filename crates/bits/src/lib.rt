@@ -142,9 +142,10 @@ pub fn read(data: &[u8], at: BitPos, n: usize) -> BitRead
     if 1 <= n {
         if n <= 32 {
             if byte + 8 <= data.len() {
-                if p <= 0x7fff_ffff_ffff_ffff {
+                if data.len() <= 0x1fff_ffff_ffff_ffff {
                     let number = window(eight_bytes(data, place), 8, p % 8, n);
-                    return BitRead::Number(number, BitPos(p + n));
+                    let end = p + n;
+                    return BitRead::Number(number, BitPos(end));
                 }
             }
         }

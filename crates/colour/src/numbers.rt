@@ -80,7 +80,7 @@ pub fn write_all(out: &mut [f64], at: usize, values: &[f64]) -> usize
         let a = values[j];
         let b = values[j + 1];
         out[at + j] = a;
-        out[at + (j + 1)] = b;
+        out[at + j + 1] = b;
         j += 2;
     }
     if j < n {

@@ -83,14 +83,12 @@ module _ {A : Type 0} where
 
   -- a loop that stores two elements a turn
   pub written-store-two : (j : ℕ) (f : ℕ → A) {l o : List A} {at : ℕ} {v w : A} → Written l o at (joined j (λ (k : ℕ). f k ∷ [])) (at + j)
-      → at + (j + 1) < length l → v ≡ f j → w ≡ f (j + 1)
-      → Written l (set (set o (at + j) v) (at + (j + 1)) w) at (joined (j + 2) (λ (k : ℕ). f k ∷ [])) (at + (j + 2))
+      → at + j + 1 < length l → v ≡ f j → w ≡ f (j + 1)
+      → Written l (set (set o (at + j) v) (at + j + 1) w) at (joined (j + 2) (λ (k : ℕ). f k ∷ [])) (at + (j + 2))
   written-store-two j f {l} {o} {at} {v} {w} h r a b =
-      let one : Written l (set o (at + j) v) at (joined (j + 1) (λ (k : ℕ). f k ∷ [])) (at + (j + 1)) =
-      rw (← add-assoc) (written-store j f h (omega arith) a) in
       let e : j + 1 + 1 ≡ j + 2 = omega arith in
-      let q : at + (j + 1) + 1 ≡ at + (j + 2) = omega arith in
-      rw (e, q) at (written-store (j + 1) f one r b)
+      let q : at + j + 1 + 1 ≡ at + (j + 2) = omega arith in
+      rw (e, q) at (written-store (j + 1) f (written-store j f h (omega arith) a) r b)
 
   -- a loop that copies elements one by one
   pub copy-none : (d : A) (vs l : List A) (at from : ℕ) → at ≤ length l → Written l l at (part d vs from 0) (at + 0)
@@ -106,10 +104,11 @@ module _ {A : Type 0} where
       rw (← add-assoc) (written-more j _ w (written-one o (at + j) _ (omega arith)))
 
   -- two elements a turn
-  pub copy-two : (d : A) (vs : List A) (from j : ℕ) {l o : List A} {at : ℕ} → at + (j + 1) < length l → Written l o at (part d vs from j) (at + j)
-      → Written l (set (set o (at + j) (getD vs (from + j) d)) (at + (j + 1)) (getD vs (from + (j + 1)) d)) at (part d vs from (j + 2)) (at + (j + 2))
+  pub copy-two : (d : A) (vs : List A) (from j : ℕ) {l o : List A} {at : ℕ} → at + j + 1 < length l → Written l o at (part d vs from j) (at + j)
+      → Written l (set (set o (at + j) (getD vs (from + j) d)) (at + j + 1) (getD vs (from + j + 1) d)) at (part d vs from (j + 2)) (at + (j + 2))
   unfolding part
-  copy-two d vs from j h w = written-store-two j (λ (k : ℕ). getD vs (from + k) d) w h refl refl
+  copy-two d vs from j h w =
+      written-store-two j (λ (k : ℕ). getD vs (from + k) d) w h refl (ap (λ (i : ℕ). getD vs i d) (add-assoc from j 1))
 
   -- what stands before the place that was written is as it was
   pub written-before : (d : A) {l o : List A} {at p : ℕ} {xs : List A} (k : ℕ) → Written l o at xs p → k < at → getD o k d ≡ getD l k d
@@ -135,12 +134,11 @@ module _ {A : Type 0} where
       (sym (written-before d (from + j) w b)) (copy-more d l from j h w)
 
   -- two elements a turn, both taken before they are stored
-  pub copy-two-within : (d : A) (from j : ℕ) {l o : List A} {at : ℕ} → from + (j + 1) < at → at + (j + 1) < length l
+  pub copy-two-within : (d : A) (from j : ℕ) {l o : List A} {at : ℕ} → from + j + 1 < at → at + j + 1 < length l
       → Written l o at (part d l from j) (at + j)
-      → Written l (set (set o (at + j) (getD o (from + j) d)) (at + (j + 1)) (getD o (from + (j + 1)) d)) at (part d l from (j + 2)) (at + (j + 2))
-  unfolding part
+      → Written l (set (set o (at + j) (getD o (from + j) d)) (at + j + 1) (getD o (from + j + 1) d)) at (part d l from (j + 2)) (at + (j + 2))
   copy-two-within d from j {l} {o} {at} b h w =
-      written-store-two j (λ (k : ℕ). getD l (from + k) d) w h (written-before d (from + j) w (omega arith)) (written-before d (from + (j + 1)) w b)
+      rw (written-before d (from + j) w (omega arith), written-before d (from + j + 1) w b) (copy-two d l from j h w)
 
   -- two parts of the output side by side, copied one after the other
   pub copied-then : (d : A) (from j k : ℕ) {l o o′ : List A} {at p q : ℕ} → Written l o at (part d l from j) p → Written o o′ p (part d o (from + j) k) q

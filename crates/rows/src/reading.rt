@@ -62,7 +62,7 @@ fn read_components(
         let a = decode::decode_value(first, scales[2 + j], mins[2 + j]);
         let b = decode::decode_value(second, scales[2 + (j + 1)], mins[2 + (j + 1)]);
         out[at + j] = a;
-        out[at + (j + 1)] = b;
+        out[at + j + 1] = b;
         next = after;
         j += 2;
     }

@@ -46,9 +46,9 @@ pub fn write_part(values: &[f64], from: usize, n: usize, out: &mut [f64], at: us
     let mut j: usize = 0;
     while j + 1 < n {
         let a = values[from + j];
-        let b = values[from + (j + 1)];
+        let b = values[from + j + 1];
         out[at + j] = a;
-        out[at + (j + 1)] = b;
+        out[at + j + 1] = b;
         j += 2;
     }
     if j < n {
@@ -66,9 +66,9 @@ fn copy_part(out: &mut [f64], from: usize, n: usize, at: usize) -> usize
     let mut j: usize = 0;
     while j + 1 < n {
         let a = out[from + j];
-        let b = out[from + (j + 1)];
+        let b = out[from + j + 1];
         out[at + j] = a;
-        out[at + (j + 1)] = b;
+        out[at + j + 1] = b;
         j += 2;
     }
     if j < n {

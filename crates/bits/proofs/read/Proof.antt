@@ -21,8 +21,8 @@ eight-bytes-requires c κs = search needs
 window-requires : tie.Need-window-requires
 window-requires c κs = search needs
 
-add-t15 : tie.Need-add-t15
-add-t15 c = search needs
+add-end : tie.Need-add-end
+add-end c = search needs
 
 returns : tie.Need-returns
 returns c =
@@ -46,7 +46,7 @@ read-spec =
     add-if3
     eight-bytes-requires
     window-requires
-    add-t15
+    add-end
     returns
     read-seldom-requires
     returns-2)

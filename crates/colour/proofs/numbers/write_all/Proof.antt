@@ -73,7 +73,7 @@ loop-less c = search needs
 loop-again : tie.Need-loop-again Inv-loop μ-loop
 loop-again c =
     let l = c .before .before .before .loop in
-    (search needs, refl, search needs, simp length-set (omega arith), rw (zero-add (l .j), zero-add (l .j + 1)) at (copy-two nan _ 0 (l .j) (omega arith) (l .inv .4)))
+    (search needs, refl, search needs, simp length-set (omega arith), rw (zero-add (l .j)) at (copy-two nan _ 0 (l .j) (omega arith) (l .inv .4)))
 
 mul-out-3 : tie.Need-mul-out-3 Inv-loop μ-loop
 mul-out-3 c = search needs
