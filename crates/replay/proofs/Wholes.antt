@@ -12,7 +12,8 @@ use Rattle.replay.specs.declared.calls.Function.{Function}
 use Rattle.replay.specs.declared.calls.Function.the-variants.{Reader, Builder, Unknown}
 use Rattle.replay.specs.declared.replaying.Seen.{Seen}
 use Rattle.replay.specs.declared.replaying.Replayed.the-variants.{Agrees, Differs, Unreadable}
-use Rattle.replay.specs.Cases.{callAt, storedAt, entriesAt, inputAt, roomAt, bytesOf, numbersOf, isKnown, inputPlace, endPlace, isWhole, Whole, seenAt, isSame, replayed, Moves}
+use Rattle.replay.specs.Cases.{callAt, storedAt, entriesAt, inputAt, roomAt, bytesOf, numbersOf, isKnown, inputPlace, endPlace, isWhole, seenAt, isSame, replayed}
+use Rattle.replay.specs.Walk.{Whole, Moves}
 
 leb-iff : (a b : ℕ) → (leb a b ≡ true) ↔ (a ≤ b)
 leb-iff a b = (leb-true a b, le-leb a b)

@@ -1,5 +1,5 @@
 -- A stored case, by the format at the top of src/main.rt, and what replaying it comes to.
-use Prim.Native.Nat.{ℕ, _+_, _-_, _*_, _≤_, _<_}
+use Prim.Native.Nat.{ℕ, _+_, _-_, _*_}
 use mathlib.Core.Bool.{Bool, true, false, cond, _&&_}
 use mathlib.Core.List.{List}
 use lib.ListN.{length, take, drop, replicate}
@@ -81,13 +81,6 @@ isWhole s at =
     && (leb (roomAt s at) 4096
     && leb (endPlace s at) (length s))))
 
--- the same, as facts
-pub record Whole (s : List ℕ) (at : ℕ) : Type 0 where
-  pub header : at + 31 ≤ length s
-  pub input : inputAt s at ≤ 1024
-  pub room : roomAt s at ≤ 4096
-  pub end : endPlace s at ≤ length s
-
 -- ---- what replaying it comes to
 
 -- -7.25, which fills the output before the call
@@ -129,9 +122,3 @@ replayed s at =
     cond (isWhole s at)
     (cond (isSame (seenAt s at) (storedAt s at)) (Agrees (endPlace s at)) (Differs (seenAt s at) (endPlace s at)))
     Unreadable
-
--- the walk through a file of so many bytes goes on behind index at, and not past the end
-abbrev pub Moves : ℕ → ℕ → Replayed → Type 0
-Moves at size (Agrees next) = (at < next) × (next ≤ size)
-Moves at size (Differs seen next) = (at < next) × (next ≤ size)
-Moves at size Unreadable = Unit {0}

@@ -2,4 +2,5 @@ pub mod Fields
 pub mod Digest
 pub mod Calls
 pub mod Cases
+pub mod Walk
 pub mod Tallies

@@ -3,7 +3,7 @@ use Prim.Native.Nat.{_+_, _-_, _≤_}
 use mathlib.Core.Path.{sym, subst, _∙_}
 use native.Mathlib.Omega.{arith}
 use lib.ListN.{length}
-use Rattle.replay.specs.Cases.{Moves}
+use Rattle.replay.specs.Walk.{Moves}
 use Rattle.replay.proofs.Tallying.{Counting, counting-start, counting-agrees, counting-differs, counting-cut, counting-end}
 use borrow.Author.Needs.{needs}
 use Rattle.replay.proofs.replay_file.Statement.{statement}
