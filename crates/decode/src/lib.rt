@@ -1,7 +1,8 @@
-// What a number of the input stands for: a raw number taken through Decode, and the flag that a float of a list stands for.
-// Each operation on floats is rounded once.
+// What a number of the input stands for: a raw number taken through Decode, the flag that a float of a list stands for, and the float of a
+// pattern of bits. Each operation on floats is rounded once.
 ghost use mathlib.Core.Path.{_≡_};
 ghost use lib.ListN.{getD};
+ghost use lib.Ieee.{binary64, ofBits};
 ghost use Rattle.decode.specs.Decode.{scaleOf, valueOf, minOf, maxOf, rangeOf};
 ghost use Rattle.decode.specs.Flag.{flagOf};
 
@@ -82,4 +83,14 @@ pub fn flag_of(x: f64) -> u32
     } else {
         0
     }
+}
+
+// The float of a pattern of 64 bits. Every NaN's pattern gives the one NaN of the logic.
+pub fn float_of(pattern: u64) -> f64
+    ensures { λ r. ⌜ r ≡ ofBits binary64 pattern ⌝ }
+{
+    if pattern % 9223372036854775808 > 9218868437227405312 {
+        return 0.0 / 0.0;
+    }
+    f64::from_bits(pattern)
 }

@@ -12,7 +12,7 @@ use lib.Ieee.Compare.{nan-differs}
 use borrow.Author.Tests.{lt-ltb, le-ltb, ltb-false}
 use Rattle.lists.specs.Writing.{Written}
 use Rattle.lists.proofs.Writing.{written-length, written-none, written-one}
-use Rattle.rows.proofs.Parts.{written-before-it}
+use Rattle.lists.proofs.Parts.{written-before-it}
 use Rattle.msf.specs.Text.{glyph, hex, decimalTo, decimal, floatText}
 
 -- ---- decimal

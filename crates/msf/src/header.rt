@@ -2,7 +2,6 @@
 ghost use mathlib.Core.Path.{_≡_};
 ghost use Prim.Native.Nat.{_+_, _≤_, _<_};
 ghost use lib.ListN.{length, getD};
-ghost use lib.Ieee.{binary64, ofBits};
 ghost use Rattle.lists.specs.Writing.{Written};
 ghost use Rattle.msf.specs.File.{bigEndian, entryCount, entries, dataAt, kindOf, named, wellFormed};
 use records::shape::Kind;
@@ -33,16 +32,6 @@ pub fn number_at(file: &[u8], at: usize, size: usize) -> u64
         k += 1;
     }
     number
-}
-
-// The float of a bit pattern. Every NaN's pattern gives the one NaN of the logic.
-fn float_of(bits: u64) -> f64
-    ensures { λ r. ⌜ r ≡ ofBits binary64 bits ⌝ }
-{
-    if bits % 9223372036854775808 > 9218868437227405312 {
-        return 0.0 / 0.0;
-    }
-    f64::from_bits(bits)
 }
 
 // The type byte's mesh type.
@@ -88,7 +77,7 @@ pub fn read_entries(file: &[u8], out: &mut [f64]) -> usize
     let mut i: usize = 0;
     while i < count {
         let bits = number_at(file, 13 + 8 * i, 8);
-        out[i] = float_of(bits);
+        out[i] = decode::float_of(bits);
         i += 1;
     }
     count

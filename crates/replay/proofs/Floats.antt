@@ -2,19 +2,9 @@
 use mathlib.Core.Path.{_≡_, refl, sym, subst}
 use mathlib.Core.Bool.{true, false, not}
 use lib.Dec.{T}
-use lib.Ieee.{Float, nan, inf, fin, binary64, ne, isNan, ofBits, div, toBits}
+use lib.Ieee.{Float, nan, inf, fin, binary64, ne, isNan, toBits}
 use lib.Ieee.Compare.{differs-from-itself, nan-differs}
 use Rattle.replay.specs.Digest.{patternOf}
-
-pub zero-over-zero : div binary64 (ofBits binary64 0) (ofBits binary64 0) ≡ nan
-unfolding div ofBits
-zero-over-zero = refl
-
-pub is-nan : (x : Float) → isNan x ≡ true → x ≡ nan
-unfolding isNan
-is-nan nan h = refl
-is-nan (inf s) h = absurd (subst T (sym h) tt)
-is-nan (fin s m e) h = absurd (subst T (sym h) tt)
 
 pub not-nan : (x : Float) → ne x x ≡ false → T (not (isNan x))
 unfolding isNan

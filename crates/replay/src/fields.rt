@@ -2,7 +2,6 @@
 ghost use mathlib.Core.Path.{_≡_};
 ghost use Prim.Native.Nat.{_+_, _*_, _^_, _<_, _≤_};
 ghost use lib.ListN.{length};
-ghost use lib.Ieee.{binary64, ofBits};
 ghost use Rattle.lists.specs.Writing.{Written};
 ghost use Rattle.replay.specs.Fields.{numberAt, floatsAt};
 
@@ -35,16 +34,6 @@ pub fn size(s: &[u8], at: usize, k: usize) -> usize
     number(s, at, k) as usize
 }
 
-// The float of a bit pattern; each pattern of a NaN gives a NaN.
-pub fn float_of(bits: u64) -> f64
-    ensures { λ r. ⌜ r ≡ ofBits binary64 bits ⌝ }
-{
-    if bits % 9223372036854775808 > 9218868437227405312 {
-        return 0.0 / 0.0;
-    }
-    f64::from_bits(bits)
-}
-
 // The k floats from an index on, to the front of out.
 pub fn floats(s: &[u8], at: usize, k: usize, out: &mut [f64])
     requires { ⌜ (at + 8 * k ≤ length (now s)) × (k ≤ length (now out)) ⌝ }
@@ -52,7 +41,7 @@ pub fn floats(s: &[u8], at: usize, k: usize, out: &mut [f64])
 {
     let mut i: usize = 0;
     while i < k {
-        out[i] = float_of(number(s, at + 8 * i, 8));
+        out[i] = decode::float_of(number(s, at + 8 * i, 8));
         i += 1;
     }
 }
