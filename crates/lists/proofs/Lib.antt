@@ -3,3 +3,4 @@ pub mod Writing
 pub mod Walking
 pub mod Members
 pub mod Offering
+pub mod Parts

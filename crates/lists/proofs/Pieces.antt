@@ -5,8 +5,9 @@ use mathlib.Core.List.{List, [], _∷_, _++_, append-assoc, append-nil}
 use native.Mathlib.Nat.{add-zero, add-suc, add-assoc, add-sub-of-le, le-refl, zero-mul, mul-one, suc-mul}
 use native.Mathlib.Numerals.{add-one}
 use native.Mathlib.Omega.{arith}
-use lib.ListN.{length, take, drop, length-append, length-drop}
-use lib.Seq.{take-length, take-at, drop-at, take-suc, getD-drop}
+use lib.ListN.{length, getD, take, drop, length-append, length-drop, List·getD-append}
+use lib.Seq.{take-length, take-at, drop-at, take-suc, getD-drop, getD-at}
+use borrow.Author.Count.{below-more}
 use Rattle.lists.specs.Lists.{joined, part, flat}
 
 module _ {A : Type 0} where
@@ -38,9 +39,23 @@ module _ {A : Type 0} where
       let e : suc c + (k - suc c) ≡ k = add-sub-of-le h in
       omega (arith, length-append (joined c g) (g c), rw e at (joined-grows (suc c) (k - suc c) g))
 
+  pub length-singles : (f : ℕ → A) (k : ℕ) → length (joined k (λ (i : ℕ). f i ∷ [])) ≡ k
+  length-singles f k = length-joined k 1 (λ (i : ℕ). f i ∷ []) (λ i. refl) ∙ mul-one k
+
+  -- element i of a list that has one for each number below k
+  pub getD-singles : (f : ℕ → A) (d : A) (k i : ℕ) → i < k → getD (joined k (λ (j : ℕ). f j ∷ [])) i d ≡ f i
+  unfolding joined
+  getD-singles f d zero i h = absurd (omega arith)
+  getD-singles f d (suc k) i h =
+      let front : List A = joined k (λ (j : ℕ). f j ∷ []) in
+      let long : length front ≡ k = length-singles f k in
+      below-more (λ (j : ℕ). getD (front ++ (f k ∷ [])) j d ≡ f j) k
+      (λ j b. List·getD-append front (f k ∷ []) d j (omega arith) ∙ getD-singles f d k j b)
+      (getD-at front (f k) [] d k long) i (omega arith)
+
   pub length-part : (d : A) (l : List A) (from k : ℕ) → length (part d l from k) ≡ k
   unfolding part
-  length-part d l from k = length-joined k 1 _ (λ i. refl) ∙ mul-one k
+  length-part d l from k = length-singles _ k
 
   -- a part, where all of it is there
   pub part-take : (d : A) (l : List A) (from k : ℕ) → from + k ≤ length l → part d l from k ≡ take k (drop from l)

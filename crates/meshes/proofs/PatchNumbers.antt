@@ -8,14 +8,13 @@ use lib.ListN.{length, getD, drop, replicate}
 use lib.Seq.{drop-drop, getD-drop}
 use lib.Ieee.{Float, nan}
 use Rattle.lists.specs.Lists.{joined, part, flat}
-use Rattle.lists.proofs.Pieces.{joined-same, part-then, flat-joined}
+use Rattle.lists.proofs.Pieces.{joined-same, length-singles, part-then, flat-joined}
 use Rattle.bits.specs.Bits.{stream, fieldAt}
 use Rattle.decode.specs.Decode.{valueOf}
 use Rattle.colour.specs.Colour.{colourRow}
 use Rattle.records.specs.Format.{numbers}
 use Rattle.rows.specs.Rows.{Ranges, numberAt, pointAt, componentsAt, pointsAt, coloursAt, listedColours}
 use Rattle.rules.specs.Meshes.{groups}
-use Rattle.rules.proofs.Lists.{length-singles}
 use Rattle.meshes.specs.Decoded.{decoded, decodedPoint, decodedColour}
 
 -- ---- groups of numbers

@@ -5,6 +5,7 @@ use mathlib.Core.List.{List, [], _∷_}
 use lib.ListN.{length, getD}
 use lib.Ieee.{Float, nan}
 use Rattle.lists.specs.Lists.{joined, flat, All}
+use Rattle.lists.proofs.Pieces.{length-singles}
 use Rattle.bits.specs.Bits.{fieldAt}
 use Rattle.decode.specs.Flag.{flagOf}
 use Rattle.records.specs.declared.layout.FlagWidth.the-variants.{Absent, Bits}
@@ -14,7 +15,6 @@ use Rattle.rules.specs.Triangles.{Tri, Rule, triangles, corners}
 use Rattle.rules.specs.Lattice.{lattice}
 use Rattle.rules.specs.Properties.{Within}
 use Rattle.rules.specs.Meshes.{flags, vertex4, vertex5, type5Mesh}
-use Rattle.rules.proofs.Lists.{length-singles}
 use Rattle.rules.proofs.Triangles.{triangles-within, corners-same}
 use Rattle.rules.proofs.Lattice.{lattice-within}
 use Rattle.meshes.specs.Decoded.{decodedVertex}

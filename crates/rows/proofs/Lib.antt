@@ -1,6 +1,5 @@
 pub mod Fits
 pub mod Lengths
-pub mod Parts
 pub mod Placed
 pub mod Numbers
 pub mod Listed

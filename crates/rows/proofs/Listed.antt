@@ -1,15 +1,10 @@
 -- Two lists that hold the ranges of all kinds hold Decode's ranges, so rows by the one are rows by the other. Assumes nothing.
-use Prim.Native.Nat.{ℕ, zero, suc, _+_, _*_, _≤_, _<_}
-use mathlib.Core.Path.{_≡_, refl, ap, _∙_}
-use mathlib.Core.List.{List, [], _∷_, _++_}
-use native.Mathlib.Nat.{mul-one}
+use Prim.Native.Nat.{ℕ, _+_, _*_, _≤_, _<_}
+use mathlib.Core.Path.{_≡_, ap}
+use mathlib.Core.List.{List, [], _∷_}
 use native.Mathlib.Omega.{arith}
-use lib.ListN.{length, getD, List·getD-append}
-use lib.Seq.{getD-at}
 use lib.Ieee.{Float, nan}
-use borrow.Author.Count.{below-more}
-use Rattle.lists.specs.Lists.{joined}
-use Rattle.lists.proofs.Pieces.{length-joined, joined-same}
+use Rattle.lists.proofs.Pieces.{joined-same, getD-singles}
 use Rattle.bits.specs.Bits.{fieldAt}
 use Rattle.decode.specs.declared.Range.{Range}
 use Rattle.decode.specs.Decode.{valueOf}
@@ -17,21 +12,10 @@ use Rattle.colour.specs.Colour.{colourRow}
 use Rattle.rows.specs.Rows.{ranges, numberAt, pointAt, componentsAt, vertexAt, pointsAt, coloursAt}
 use Rattle.rows.specs.Placing.{listed, Ranged}
 
--- an element of a list that is given index by index
-getD-joined : {A : Type 0} (d : A) (f : ℕ → A) (k i : ℕ) → i < k → getD (joined k (λ (j : ℕ). f j ∷ [])) i d ≡ f i
-unfolding joined
-getD-joined d f zero i h = absurd (omega arith)
-getD-joined {A} d f (suc k) i h =
-    let front : List A = joined k (λ (j : ℕ). f j ∷ []) in
-    let long : length front ≡ k = length-joined k 1 (λ (j : ℕ). f j ∷ []) (λ j. refl) ∙ mul-one k in
-    below-more (λ (j : ℕ). getD (front ++ (f k ∷ [])) j d ≡ f j) k
-    (λ j b. List·getD-append front (f k ∷ []) d j (omega arith) ∙ getD-joined d f k j b)
-    (getD-at front (f k) [] d k long) i (omega arith)
-
 module _ {dec : List Float} {coord comp : ℕ} {mins scales : List Float} (r : Ranged dec coord comp mins scales) where
   pub listed-ranges : (k : ℕ) → k < 34 → listed mins scales k ≡ ranges dec coord comp k
   listed-ranges k h =
-      rw (r .least, r .steps, getD-joined nan (λ (i : ℕ). ranges dec coord comp i .min) 34 k h, getD-joined nan (λ (i : ℕ). ranges dec coord comp i .scale) 34 k h)
+      rw (r .least, r .steps, getD-singles (λ (i : ℕ). ranges dec coord comp i .min) nan 34 k h, getD-singles (λ (i : ℕ). ranges dec coord comp i .scale) nan 34 k h)
 
   module _ (s : List ℕ) where
     number-ranges : (w k p : ℕ) → k < 34 → numberAt s (listed mins scales) w k p ≡ numberAt s (ranges dec coord comp) w k p

@@ -2,13 +2,12 @@
 use mathlib.Core.Path.{_≡_, refl, sym, ap, ap₂, _∙_}
 use mathlib.Core.List.{List, [], _∷_, _++_, append-assoc, append-nil, map, map-append}
 use Prim.Native.Nat.{ℕ, zero, suc, _+_, _-_, _*_, _/_, _≤_, _<_}
-use native.Mathlib.Nat.{zero-mul, le-of-suc-le-suc, lt-of-not-le, add-zero, add-suc, add-sub-of-le, mul-one, suc-mul, div-zero, div-mul-le-self, mul-le-mul-right, le-div-iff-mul-le}
-use native.Mathlib.Decide.{decLt}
+use native.Mathlib.Nat.{zero-mul, le-of-suc-le-suc, add-zero, add-suc, add-sub-of-le, suc-mul, div-zero, div-mul-le-self, mul-le-mul-right, le-div-iff-mul-le}
 use native.Mathlib.Omega.{arith}
 use lib.ListN.{length, getD, take, drop, length-append, length-drop, List·getD-append}
-use lib.Seq.{getD-at, length-take-le}
+use lib.Seq.{length-take-le}
 use Rattle.lists.specs.Lists.{joined, part, flat, All, AllBelow, Begins}
-use Rattle.lists.proofs.Pieces.{length-joined, joined-same, flat-append, part-middle}
+use Rattle.lists.proofs.Pieces.{joined-same, flat-append, part-middle}
 use Rattle.lists.proofs.Members.{all-append, all-take, all-drop, begins-same, begins-then}
 use Rattle.rules.specs.Patches.{at}
 
@@ -34,23 +33,6 @@ module _ {A : Type 0} where
   unfolding joined
   all-joined P zero f h = tt
   all-joined P (suc k) f h = all-append P (joined k f) (f k) (all-joined P k f (λ i l. h i (omega arith))) (h k (omega arith))
-
--- ---- one element at a time
-
-module _ {A : Type 0} (f : ℕ → A) where
-  pub length-singles : (k : ℕ) → length (joined k (λ (i : ℕ). f i ∷ [])) ≡ k
-  length-singles k = length-joined k 1 (λ (i : ℕ). f i ∷ []) (λ i. refl) ∙ mul-one k
-
-  pub getD-singles : (d : A) (k i : ℕ) → i < k → getD (joined k (λ (j : ℕ). f j ∷ [])) i d ≡ f i
-  unfolding joined
-  getD-singles d zero i h = absurd (omega arith)
-  getD-singles d (suc k) i h = go (decLt i k) (getD-singles d k i)
-    where
-      go : Dec (i < k) → (i < k → getD (joined k (λ (j : ℕ). f j ∷ [])) i d ≡ f i) → getD (joined k (λ (j : ℕ). f j ∷ []) ++ (f k ∷ [])) i d ≡ f i
-      go (yes l) ih = List·getD-append (joined k (λ (j : ℕ). f j ∷ [])) (f k ∷ []) d i (rw (length-singles k) l) ∙ ih l
-      go (no l) ih =
-          let e : i ≡ k = omega (arith, lt-of-not-le l) in
-          rw e (getD-at (joined k (λ (j : ℕ). f j ∷ [])) (f k) [] d k (length-singles k))
 
 -- ---- beginnings
 

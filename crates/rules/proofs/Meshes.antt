@@ -11,13 +11,13 @@ use lib.Dec.{leb}
 use lib.ListN.{length, getD, drop, length-append, length-drop}
 use lib.Seq.{drop-append-le}
 use Rattle.lists.specs.Lists.{part, All, Begins}
-use Rattle.lists.proofs.Pieces.{joined-same, length-part}
+use Rattle.lists.proofs.Pieces.{joined-same, length-part, length-singles, getD-singles}
 use Rattle.lists.proofs.Members.{begins-nothing, begins-after}
 use Rattle.rules.specs.Triangles.{Rule}
 use Rattle.rules.specs.Patches.{Patch, patch, Places, Table, sides, Piece, onto, patchRow}
 use Rattle.rules.specs.Meshes.{flags, vertex4, vertex5, type4Mesh, type5Mesh, pointsAfter, coloursAfter, sizeAfter, groups, piece, piecesTo, pieces, patches, patchMesh}
 use Rattle.rules.specs.Properties.{Sized, Made, Fits}
-use Rattle.rules.proofs.Lists.{div-grows, group-fits, all-joined, length-singles, getD-singles, joined-begins, begins-length, begins-getD, begins-part, flat-begins}
+use Rattle.rules.proofs.Lists.{div-grows, group-fits, all-joined, joined-begins, begins-length, begins-getD, begins-part, flat-begins}
 use Rattle.rules.proofs.Triangles.{triangles-begins, triangles-within, corners-begins}
 use Rattle.rules.proofs.Lattice.{lattice-begins, lattice-within}
 use Rattle.rules.proofs.Patches.{mesh-begins, mesh-has, onto-sized, onto-made}

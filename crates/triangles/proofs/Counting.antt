@@ -5,29 +5,11 @@ use mathlib.Core.Logic.{_⊎_, inl, inr, ⊎-elim}
 use mathlib.Core.List.{List, [], _∷_, _++_}
 use mathlib.Core.Option.{Option, none, some}
 use native.Mathlib.Omega.{arith}
-use native.Mathlib.Nat.{lt-of-not-le}
-use native.Mathlib.Decide.{decLe}
-use lib.ListN.{length, getD, length-append, List·getD-append}
-use lib.Seq.{getD-at}
+use lib.ListN.{length, getD, length-append}
 use Rattle.lists.specs.Lists.{joined}
+use Rattle.lists.proofs.Pieces.{length-singles, getD-singles}
 use Rattle.rules.specs.Triangles.{Tri, tri, triangleBefore, triangles}
-use Rattle.rules.proofs.Lists.{length-singles}
 use Rattle.rules.proofs.Walks.{Walk, keptOf, walk-start, walk-end, walk-first, walk-cut, walk-bc, walk-ac, walk-alone, walk-far, walk-none, walk-some}
-
--- one element for each number below k: that for i
-pub getD-singles : {A : Type 0} (f : ℕ → A) (d : A) (k i : ℕ) → i < k → getD (joined k (λ (j : ℕ). f j ∷ [])) i d ≡ f i
-unfolding joined
-getD-singles f d zero i h = absurd (omega arith)
-getD-singles {A} f d (suc k) i h = by (decLe k i) (getD-singles f d k i)
-  where
-    l : List A
-    l = joined k (λ (j : ℕ). f j ∷ [])
-
-    by : Dec (k ≤ i) → (i < k → getD l i d ≡ f i) → getD (l ++ (f k ∷ [])) i d ≡ f i
-    by (yes e) rest =
-        let z : i ≡ k = omega arith in
-        rw z (getD-at l (f k) [] d k (length-singles f k))
-    by (no n) rest = List·getD-append l (f k ∷ []) d i (rw (length-singles f k) (lt-of-not-le n)) ∙ rest (lt-of-not-le n)
 
 pub one-or-two : (f : ℕ) → 1 ≤ f → f < 3 → (f ≡ 1) ⊎ (f ≡ 2)
 one-or-two zero h k = absurd (omega arith)

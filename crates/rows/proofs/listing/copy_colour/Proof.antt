@@ -8,7 +8,7 @@ use Rattle.lists.proofs.Pieces.{length-part}
 use Rattle.lists.proofs.Offering.{offered-written}
 use Rattle.colour.specs.Colour.{colourOf, colourRow}
 use Rattle.colour.proofs.Rows.{length-row}
-use Rattle.rows.proofs.Parts.{part-between}
+use Rattle.lists.proofs.Parts.{part-between}
 use borrow.Author.Needs.{needs}
 use Rattle.rows.proofs.listing.copy_colour.Statement.{statement}
 use Rattle.rows.proofs.listing.copy_colour.Tie as tie

@@ -6,7 +6,7 @@ use lib.Ieee.{nan}
 use Rattle.lists.proofs.Writing.{written-then}
 use Rattle.colour.specs.Colour.{colourOf, colourRow}
 use Rattle.rows.specs.Rows.{listedVertex}
-use Rattle.rows.proofs.Parts.{part-between, part-of-two}
+use Rattle.lists.proofs.Parts.{part-between, part-of-two}
 use borrow.Author.Needs.{needs}
 use Rattle.rows.proofs.listing.copy_vertex.Statement.{statement}
 use Rattle.rows.proofs.listing.copy_vertex.Tie as tie

@@ -10,7 +10,7 @@ use Rattle.lists.proofs.Writing.{written-start, written-store}
 use Rattle.decode.specs.declared.Range.{Range}
 use Rattle.decode.specs.Decode.{rangeOf}
 use Rattle.rows.specs.Rows.{ranges}
-use Rattle.rows.proofs.Parts.{written-whole}
+use Rattle.lists.proofs.Parts.{written-whole}
 use borrow.Author.Needs.{needs}
 use Rattle.rows.proofs.ranges.fill.Statement.{statement}
 use Rattle.rows.proofs.ranges.fill.Tie as tie

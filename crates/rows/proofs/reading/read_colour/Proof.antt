@@ -4,7 +4,7 @@ use native.Mathlib.Omega.{arith}
 use Rattle.lists.proofs.Offering.{offered-written}
 use Rattle.colour.specs.Colour.{colourOf, colourRow}
 use Rattle.colour.proofs.Rows.{length-colour}
-use Rattle.rows.proofs.Parts.{written-between, written-before-it}
+use Rattle.lists.proofs.Parts.{written-between, written-before-it}
 use borrow.Author.Needs.{needs}
 use Rattle.rows.proofs.reading.read_colour.Statement.{statement}
 use Rattle.rows.proofs.reading.read_colour.Tie as tie

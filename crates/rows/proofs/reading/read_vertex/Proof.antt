@@ -6,7 +6,7 @@ use Rattle.colour.specs.Colour.{colourOf, colourRow}
 use Rattle.rows.specs.Rows.{vertexAt}
 use Rattle.rows.specs.Placing.{listed}
 use Rattle.rows.proofs.Numbers.{got, no-end, point-read}
-use Rattle.rows.proofs.Parts.{written-between, written-before-it}
+use Rattle.lists.proofs.Parts.{written-between, written-before-it}
 use borrow.Author.Needs.{needs}
 use Rattle.rows.proofs.reading.read_vertex.Statement.{statement}
 use Rattle.rows.proofs.reading.read_vertex.Tie as tie

@@ -1,4 +1,4 @@
--- Parts of lists, as the code takes them; and rows that are written end first. Assumes nothing.
+-- Parts of lists, as the code takes them; and what is written end first. Assumes nothing.
 use Prim.Native.Nat.{ℕ, _+_, _-_, _≤_}
 use mathlib.Core.Path.{_≡_, sym, _∙_}
 use mathlib.Core.List.{List, [], _∷_, _++_, append-assoc}
