@@ -1,5 +1,4 @@
 pub mod Found
-pub mod Tables
 pub mod Records
 pub mod NextPatch
 pub mod Walk

@@ -44,13 +44,21 @@ const GRID: [Side; 3] = [
     },
 ];
 
+// Each row has an index of its own here, so that no table is copied to be looked into.
 pub fn side_of(sides: Sides, flag: usize) -> Side
     requires { ⌜ (1 ≤ flag) × (flag ≤ 3) ⌝ }
     ensures { λ r. ⌜ TakenSide (tableOf sides) flag r ⌝ }
 {
-    let row = flag - 1;
     match sides {
-        Sides::Border => BORDER[row],
-        Sides::Grid => GRID[row],
+        Sides::Border => match flag {
+            1 => BORDER[0],
+            2 => BORDER[1],
+            _ => BORDER[2],
+        },
+        Sides::Grid => match flag {
+            1 => GRID[0],
+            2 => GRID[1],
+            _ => GRID[2],
+        },
     }
 }
