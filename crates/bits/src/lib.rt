@@ -142,7 +142,7 @@ pub fn read(data: &[u8], at: BitPos, n: usize) -> BitRead
     if 1 <= n {
         if n <= 32 {
             if byte + 8 <= data.len() {
-                if data.len() <= 0x1fff_ffff_ffff_ffff {
+                if data.len() <= 0x1fff_ffff_ffff_ffff { // a usize counts its bits
                     let number = window(eight_bytes(data, place), 8, p % 8, n);
                     let end = p + n;
                     return BitRead::Number(number, BitPos(end));
