@@ -2,6 +2,13 @@
 ghost use mathlib.Core.Path.{_≡_};
 ghost use Rattle.answers.specs.Told.{numberOf, told};
 
+// The limits of document 01. COMPONENTS: more components than these; LENGTH: more bytes, or more numbers of a list.
+pub const MOST_COMPONENTS: usize = 32;
+
+pub const MOST_BYTES: usize = 16_777_216;
+
+pub const MOST_NUMBERS: usize = 1_048_576;
+
 // The seven refusals of document 01, by name.
 pub enum Refusal {
     Layout,

@@ -87,10 +87,10 @@ pub fn write(
     if !widths_are_readable(first, coord, comp) {
         return Answer::Refused(Refusal::Layout);
     }
-    if n > 32 {
+    if n > answers::MOST_COMPONENTS {
         return Answer::Refused(Refusal::Components);
     }
-    if numbers.len() > 1_048_576 {
+    if numbers.len() > answers::MOST_NUMBERS {
         return Answer::Refused(Refusal::Length);
     }
     let mesh = Mesh {

@@ -50,10 +50,10 @@ fn parse_patches(
     if !records::layout::mesh_layout_is_readable(coord, comp, FlagWidth::Bits(flag), decode.len()) {
         return Answer::Refused(Refusal::Layout);
     }
-    if n > 32 {
+    if n > answers::MOST_COMPONENTS {
         return Answer::Refused(Refusal::Components);
     }
-    if data.len() > 16777216 {
+    if data.len() > answers::MOST_BYTES {
         return Answer::Refused(Refusal::Length);
     }
     let mut mins = [0.0; 34];
@@ -76,10 +76,10 @@ fn build_patches(values: &[f64], n: usize, form: Form, sides: Sides, out: &mut [
     requires { ⌜ All (Fits (4 + ownOf form)) (tableOf sides) ⌝ }
     ensures { λ r. ⌜ Done (builtForm form sides (now (values .entry)) n (length (now (out .entry)))) (now (out .entry)) r (now (out .exit)) ⌝ }
 {
-    if n > 32 {
+    if n > answers::MOST_COMPONENTS {
         return Answer::Refused(Refusal::Components);
     }
-    if values.len() > 1048576 {
+    if values.len() > answers::MOST_NUMBERS {
         return Answer::Refused(Refusal::Length);
     }
     // no bits and no ranges are looked at where the records stand in a list

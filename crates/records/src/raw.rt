@@ -262,10 +262,10 @@ fn raw_read(
     if !widths_are_readable(first, coord, comp) {
         return Answer::Refused(Refusal::Layout);
     }
-    if n > 32 {
+    if n > answers::MOST_COMPONENTS {
         return Answer::Refused(Refusal::Components);
     }
-    if data.len() > 16777216 {
+    if data.len() > answers::MOST_BYTES {
         return Answer::Refused(Refusal::Length);
     }
     let mesh = Mesh {

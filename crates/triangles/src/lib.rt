@@ -38,10 +38,10 @@ fn read_type4(
     if !mesh_layout_is_readable(coord, comp, FlagWidth::Bits(flag), decode.len()) {
         return Answer::Refused(Refusal::Layout);
     }
-    if n > 32 {
+    if n > answers::MOST_COMPONENTS {
         return Answer::Refused(Refusal::Components);
     }
-    if data.len() > 16777216 {
+    if data.len() > answers::MOST_BYTES {
         return Answer::Refused(Refusal::Length);
     }
     let source = source_of_bits(data, coord, comp, flag, n);
@@ -65,10 +65,10 @@ fn read_type5(
     if !mesh_layout_is_readable(coord, comp, FlagWidth::Absent, decode.len()) {
         return Answer::Refused(Refusal::Layout);
     }
-    if n > 32 {
+    if n > answers::MOST_COMPONENTS {
         return Answer::Refused(Refusal::Components);
     }
-    if data.len() > 16777216 {
+    if data.len() > answers::MOST_BYTES {
         return Answer::Refused(Refusal::Length);
     }
     let source = source_of_bits(data, coord, comp, 0, n);
@@ -143,10 +143,10 @@ pub fn published_type5_mesh(
 fn build_type4(values: &[f64], n: usize, last_three: bool, out: &mut [f64]) -> Answer
     ensures { λ r. ⌜ Done (build4 (triangles (ruleOf «last_three»)) (now (values .entry)) n (length (now (out .entry)))) (now (out .entry)) r (now (out .exit)) ⌝ }
 {
-    if n > 32 {
+    if n > answers::MOST_COMPONENTS {
         return Answer::Refused(Refusal::Components);
     }
-    if values.len() > 1048576 {
+    if values.len() > answers::MOST_NUMBERS {
         return Answer::Refused(Refusal::Length);
     }
     let source = source_of_list(values, 1, n);
@@ -158,10 +158,10 @@ fn build_type4(values: &[f64], n: usize, last_three: bool, out: &mut [f64]) -> A
 fn build_type5(values: &[f64], n: usize, row: usize, out: &mut [f64]) -> Answer
     ensures { λ r. ⌜ Done (build5 (now (values .entry)) n row (length (now (out .entry)))) (now (out .entry)) r (now (out .exit)) ⌝ }
 {
-    if n > 32 {
+    if n > answers::MOST_COMPONENTS {
         return Answer::Refused(Refusal::Components);
     }
-    if values.len() > 1048576 {
+    if values.len() > answers::MOST_NUMBERS {
         return Answer::Refused(Refusal::Length);
     }
     let source = source_of_list(values, 0, n);
