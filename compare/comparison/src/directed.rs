@@ -3,10 +3,10 @@
 
 use crate::case::{Case, Input, Origin, Room, MOST_BYTES, MOST_NUMBERS};
 use crate::draw;
+use crate::job::Job;
 use crate::raw::{RawCase, Task};
 use crate::record::{is_flagged, is_patched, size};
 use crate::report::{Bench, KINDS};
-use crate::run::Job;
 use generator::Generator;
 use station::{Kind, Layout, MeshKind};
 

@@ -1,10 +1,10 @@
 //! Short inputs, all of them: streams of up to two bytes, lists of up to five numbers, flags in every order, lattices of every shape.
 
 use crate::case::{Case, Input, Room};
+use crate::job::Job;
 use crate::raw::{RawCase, Task};
 use crate::record::{packed, shape, size};
 use crate::report::{Bench, KINDS};
-use crate::run::Job;
 use station::{Kind, Layout, MeshKind};
 
 /// Narrow layouts, so that several records fit into few bytes: coordinate, component, flag, components.

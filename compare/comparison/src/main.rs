@@ -10,6 +10,7 @@ mod checks;
 mod directed;
 mod draw;
 mod exhaustive;
+mod job;
 mod lent;
 mod library;
 mod raw;

@@ -14,9 +14,6 @@ const THREADS: usize = 2;
 /// How many random cases a thread takes at once.
 const CHUNK: usize = 1000;
 
-/// A piece of work that needs no random numbers.
-pub type Job = Box<dyn Fn(&mut Bench<'_>) + Send + Sync>;
-
 /// How many random cases are drawn.
 #[derive(Clone, Copy)]
 pub enum Limit {
