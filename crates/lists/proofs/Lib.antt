@@ -2,5 +2,5 @@ pub mod Pieces
 pub mod Writing
 pub mod Walking
 pub mod Members
-pub mod Offering
+pub mod Placing
 pub mod Parts

@@ -1,11 +1,17 @@
 -- A walk that writes a whole list piece by piece, where the data decide each piece's length. Assumes nothing.
 use Prim.Native.Nat.{ℕ, _+_, _≤_}
-use mathlib.Core.Path.{refl, ap}
+use mathlib.Core.Path.{_≡_, refl, ap}
 use mathlib.Core.List.{List, [], _++_, append-assoc, append-nil}
 use native.Mathlib.Omega.{arith}
 use lib.ListN.{length, length-append}
-use Rattle.lists.specs.Writing.{Written, Going}
+use Rattle.lists.specs.Writing.{Written}
 use Rattle.lists.proofs.Writing.{written-length, written-none, written-then}
+
+-- of the list whole, what stands before rest has been written to the front of the output
+pub record Going {A : Type 0} (whole entry exit : List A) (p : ℕ) (rest : List A) : Type 0 where
+  pub done : List A
+  pub split : whole ≡ done ++ rest
+  pub written : Written entry exit 0 done p
 
 module _ {A : Type 0} where
   pub going-start : (whole l : List A) → Going whole l l 0 whole

@@ -2,9 +2,8 @@
 use Prim.Native.Nat.{ℕ, _+_, _≤_}
 use mathlib.Core.Path.{_≡_}
 use mathlib.Core.List.{List, _++_}
-use mathlib.Core.Bool.{cond}
+use mathlib.Core.Bool.{Bool, cond}
 use lib.ListN.{length, take, drop}
-use lib.Dec.{leb}
 
 -- l with xs in the place of as many elements from index at
 unfoldable pub put : {A : Type 0} → List A → ℕ → List A → List A
@@ -16,13 +15,7 @@ pub record Written {A : Type 0} (entry exit : List A) (at : ℕ) (xs : List A) (
   pub room : at + length xs ≤ length entry
   pub after : next ≡ at + length xs
 
--- of the list whole, what stands before rest has been written to the front of the output
-pub record Going {A : Type 0} (whole entry exit : List A) (p : ℕ) (rest : List A) : Type 0 where
-  pub done : List A
-  pub split : whole ≡ done ++ rest
-  pub written : Written entry exit 0 done p
-
--- xs has been written from index at if there was room for it, else nothing has; next is the index after what was written
-pub record Offered {A : Type 0} (entry exit : List A) (at : ℕ) (xs : List A) (next : ℕ) : Type 0 where
-  pub held : exit ≡ cond (leb (at + length xs) (length entry)) (put entry at xs) entry
-  pub after : next ≡ cond (leb (at + length xs) (length entry)) (at + length xs) at
+-- xs has been written from index at where ok holds, else nothing has; next is the index after what was written
+pub record Placed {A : Type 0} (ok : Bool) (entry exit : List A) (at : ℕ) (xs : List A) (next : ℕ) : Type 0 where
+  pub held : exit ≡ cond ok (put entry at xs) entry
+  pub after : next ≡ cond ok (at + length xs) at
