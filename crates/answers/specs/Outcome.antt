@@ -1,16 +1,29 @@
--- What a call that writes into a lent output comes to, for an output of any element: document 01, "Refusal numbers".
+-- What a call answers, by its numbers, and what a call that writes into a lent output comes to: document 01, "Refusal numbers".
 use Prim.Native.Nat.{ℕ}
+use Rattle.answers.specs.declared.Refusal.{Refusal}
+use Rattle.answers.specs.declared.Refusal.the-variants.{Layout, Components, Length, Room, Record, Thin, File}
+use Rattle.answers.specs.declared.Answer.{Answer}
+use Rattle.answers.specs.declared.Answer.the-variants.{Wrote, Refused}
+use Rattle.answers.specs.declared.Told.{Told}
 use mathlib.Core.Path.{_≡_}
 use mathlib.Core.Bool.{Bool, cond}
 use mathlib.Core.List.{List, _++_}
 use lib.ListN.{length, drop}
 use lib.Dec.{ltb}
-use Rattle.answers.specs.declared.Refusal.{Refusal}
-use Rattle.answers.specs.declared.Refusal.the-variants.{Room}
-use Rattle.answers.specs.declared.Answer.{Answer}
-use Rattle.answers.specs.declared.Answer.the-variants.{Wrote, Refused}
-use Rattle.answers.specs.declared.Told.{Told}
-use Rattle.answers.specs.Told.{told}
+
+abbrev pub numberOf : Refusal → ℕ
+numberOf Layout = 1
+numberOf Components = 2
+numberOf Length = 3
+numberOf Room = 4
+numberOf Record = 5
+numberOf Thin = 6
+numberOf File = 7
+
+-- an accepted call answers how much it wrote, a refusal its number
+abbrev pub told : Answer → Told
+told (Wrote n) = record { refused = 0; count = n }
+told (Refused r) = record { refused = numberOf r; count = 0 }
 
 -- a refusal; or so many things, which are these elements
 pub data Outcome (A : Type 0) : Type 0 where
@@ -36,7 +49,11 @@ module _ {A : Type 0} where
   leaves (refused r) entry = entry
   leaves (wrote count xs) entry = xs ++ drop (length xs) entry
 
--- the call has answered what the outcome tells, and the output, which held entry, holds what the outcome leaves
-pub record Done {A : Type 0} (o : Outcome A) (entry : List A) (r : Answer) (exit : List A) : Type 0 where
-  pub answered : told r ≡ tells o
+-- the two numbers are the outcome's, and the output, which held entry, holds what the outcome leaves
+pub record Tells {A : Type 0} (o : Outcome A) (entry : List A) (t : Told) (exit : List A) : Type 0 where
+  pub answered : t ≡ tells o
   pub held : exit ≡ leaves o entry
+
+-- the call has answered what the outcome tells, by the answer's numbers
+abbrev pub Done : {A : Type 0} → Outcome A → List A → Answer → List A → Type 0
+Done o entry r exit = Tells o entry (told r) exit

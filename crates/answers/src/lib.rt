@@ -1,6 +1,6 @@
 // How a call answers: what it wrote, or why it refused.
 ghost use mathlib.Core.Path.{_≡_};
-ghost use Rattle.answers.specs.Told.{numberOf, told};
+ghost use Rattle.answers.specs.Outcome.{numberOf, told};
 
 // The limits of document 01. COMPONENTS: more components than these; LENGTH: more bytes, or more numbers of a list.
 pub const MOST_COMPONENTS: usize = 32;
