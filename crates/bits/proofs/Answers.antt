@@ -12,9 +12,7 @@ use Rattle.bits.specs.declared.BitPos.{BitPos}
 use Rattle.bits.specs.declared.BitRead.the-variants.{Number, End}
 use Rattle.bits.specs.Bits.{fieldAt}
 use Rattle.bits.specs.Reading.{readAt}
-use Rattle.bits.specs.Gathering.{Gathers}
 use Rattle.bits.proofs.Streams.{field-below}
-use Rattle.bits.proofs.Gathering.{gathers-whole}
 
 and-false : (b : Bool) → b && false ≡ false
 and-false true = refl
@@ -42,13 +40,6 @@ module _ (s : List ℕ) (p n : ℕ) where
   unfolding readAt
   answer-number nz small h fits =
       simp (ne-eqb n 0 (λ (z : n ≡ 0). omega arith), le-leb n 32 small, le-leb (p + n) (8 * length s) h, lt-ltb (p + n) (2 ^ 64) fits)
-
--- whole bytes, at a place where a byte begins
-pub answer-whole : {s : List ℕ} {from count r : ℕ} (p n : ℕ) → Gathers s from count r → 1 ≤ count → count ≤ 4 → from + count ≤ length s
-    → p ≡ 8 * from → n ≡ 8 * count → p + n < 2 ^ 64 → Number r (record { 0 = p + n }) ≡ readAt s p n
-answer-whole {s} {from} {count} {r} p n g some few fits at wide placed =
-    let e : 8 * from + 0 ≡ p = omega arith in
-    rw (gathers-whole 0 n g fits refl wide, e) (answer-number s p n (omega arith) (omega arith) (omega arith) placed)
 
 -- what a number says
 pub record Found (s : List ℕ) (p n v : ℕ) (q : BitPos) : Type 0 where

@@ -2,7 +2,7 @@
 use Prim.Native.Nat.{ℕ, _+_, _-_, _*_, _/_, _%_, _^_, _≤_, _<_}
 use mathlib.Core.Path.{_≡_, refl, sym, ap, _∙_, subst}
 use mathlib.Core.List.{List, append-nil}
-use native.Mathlib.Nat.{add-assoc, mul-add, one-mul, mod-eq-of-lt, mod-lt, div-one, lt-of-lt-of-le}
+use native.Mathlib.Nat.{add-assoc, mul-add, one-mul, mod-eq-of-lt, mod-lt, div-one, lt-of-lt-of-le, zero-add}
 use native.Mathlib.Omega.{arith}
 use lib.ListN.{length, take, drop, getD}
 use lib.Seq.{drop-drop, take-add, drop-cons}
@@ -11,7 +11,7 @@ use lib.Arith.{digits-lt}
 use lib.Bits.{bitOr, or-shifted, bitAnd, and-mask}
 use lib.Dec.{lit<}
 use Rattle.bits.specs.Bits.{bitsOf, number, stream, fieldAt}
-use Rattle.bits.specs.Gathering.{Gathers}
+use Rattle.bits.specs.Inner.Gathering.{Gathers}
 use Rattle.bits.proofs.Digits.{number-bits, take-bits, drop-bits, bits-join}
 use Rattle.bits.proofs.Streams.{stream-append, bytes-window}
 
@@ -50,6 +50,11 @@ pub gathers-before : {s : List ℕ} (w from j k : ℕ) {x y : ℕ} → 8 + 8 * k
 gathers-before {s} w from j k {y = y} fits g h =
     gathers-put w 1 k fits g (subst (λ (i : ℕ). Gathers s i k y) (sym (add-assoc from j 1)) h)
 
+-- one more byte after the first k
+pub gathers-next : {s : List ℕ} (w k : ℕ) {x y : ℕ} → 8 * k + 8 ≤ w → Gathers s 0 k x → Gathers s k 1 y
+    → Gathers s 0 (k + 1) (bitOr (x * 2 ^ 8 % 2 ^ w) y)
+gathers-next w k fits g h = gathers-put w k 1 fits g (rw (zero-add k) h)
+
 -- how the code takes the low n bits
 pub one-shl : (n : ℕ) → n ≤ 32 → 1 * 2 ^ n % 2 ^ 64 ≡ 2 ^ n
 one-shl n h = shl-exact {a = 1} 1 n 64 (lit< tt) (omega arith) ∙ one-mul (2 ^ n)
@@ -74,13 +79,18 @@ gathers-window {s} {from} {count} {r} off n g fits inside =
     ∙ take-bits n rest r)
     ∙ number-bits n (r / 2 ^ rest)
 
--- whole bytes at their start
-pub gathers-whole : {s : List ℕ} {from count r : ℕ} (off n : ℕ) → Gathers s from count r → from + count ≤ length s → off ≡ 0 → n ≡ 8 * count
-    → r ≡ fieldAt s (8 * from + off) n
-gathers-whole {s} {from} {count} {r} off n g fits z w =
+-- the same, in bytes at the start of the slice
+pub start-window : {s : List ℕ} {count r : ℕ} (off n : ℕ) → Gathers s 0 count r → count ≤ length s → off + n ≤ 8 * count
+    → fieldAt s off n ≡ r / 2 ^ (8 * count - off - n) % 2 ^ n
+start-window {s} off n g fits inside = ap (λ (p : ℕ). fieldAt s p n) (sym (zero-add off)) ∙ gathers-window off n g (omega arith) inside
+
+-- all of their bits
+pub start-whole : {s : List ℕ} {count r : ℕ} (off n : ℕ) → Gathers s 0 count r → count ≤ length s → off ≡ 0 → n ≡ 8 * count
+    → r ≡ fieldAt s off n
+start-whole {s} {count} {r} off n g fits z w =
     let none : 8 * count - off - n ≡ 0 = omega arith in
     sym
-    (gathers-window off n g fits (omega arith)
+    (start-window off n g fits (omega arith)
     ∙ ap (λ (k : ℕ). r / 2 ^ k % 2 ^ n) none
     ∙ ap (λ (m : ℕ). m % 2 ^ n) (div-one r)
     ∙ mod-eq-of-lt (rw w (g .small)))

@@ -1,11 +1,11 @@
 -- The bits of bytes. Assumes nothing.
-use Prim.Native.Nat.{ℕ, zero, suc, _+_, _*_, _^_, _≤_, _<_}
+use Prim.Native.Nat.{ℕ, zero, suc, _+_, _-_, _*_, _^_, _≤_, _<_}
 use mathlib.Core.Path.{_≡_, refl, sym, ap, _∙_, subst}
 use mathlib.Core.List.{List, [], _∷_, _++_, append-assoc}
 use native.Mathlib.Nat.{add-comm, mul-suc}
 use native.Mathlib.Omega.{arith}
 use lib.ListN.{length, take, drop, length-append, length-take, length-drop, take-append-drop}
-use lib.Seq.{drop-nil, drop-drop, drop-at, take-append-le, drop-append-le}
+use lib.Seq.{take-all, drop-nil, drop-drop, drop-at, take-append-le, drop-append-le}
 use Rattle.lists.specs.Lists.{AllBelow}
 use Rattle.lists.proofs.Members.{all-append, all-take, all-drop}
 use Rattle.bits.specs.Bits.{bitsOf, number, stream, fieldAt}
@@ -57,3 +57,11 @@ field-below s p w h =
     let bit : ℕ → Type 0 = λ x. x < 2 in
     subst (λ (k : ℕ). number (take w (drop p (stream s))) < 2 ^ k) e
     (number-below (take w (drop p (stream s))) (all-take bit w (drop p (stream s)) (all-drop bit p (stream s) (stream-below s))))
+
+-- a field of the bytes from i on is one of the whole
+pub field-from : (s : List ℕ) (i off w : ℕ) → fieldAt (take (length s - i) (drop i s)) off w ≡ fieldAt s (8 * i + off) w
+unfolding fieldAt
+field-from s i off w =
+    ap (λ (l : List ℕ). number (take w (drop off (stream l)))) (take-all (length s - i) (drop i s) (rw length-drop (omega arith)))
+    ∙ ap (λ (l : List ℕ). number (take w (drop off l))) (sym (drop-stream i s))
+    ∙ ap (λ (l : List ℕ). number (take w l)) (drop-drop off (8 * i) (stream s))

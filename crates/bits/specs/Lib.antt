@@ -1,3 +1,3 @@
 pub mod Bits
 pub mod Reading
-pub mod Gathering
+pub mod Inner

@@ -1,10 +1,11 @@
 // The bit reader: numbers of 1 to 32 bits, taken from the high end of each byte, bytes in order.
 // A place is handed in and the next one handed back; the slice is lent for each read.
 ghost use mathlib.Core.Path.{_≡_};
-ghost use Prim.Native.Nat.{_+_, _-_, _*_, _/_, _%_, _^_, _≤_};
+ghost use Prim.Native.Nat.{_+_, _-_, _*_, _/_, _%_, _^_, _≤_, _<_};
 ghost use lib.ListN.{length};
-ghost use Rattle.bits.specs.Reading.{readAt, exhaustedAt};
-ghost use Rattle.bits.specs.Gathering.{Gathers};
+ghost use Rattle.bits.specs.Bits.{fieldAt};
+ghost use Rattle.bits.specs.Reading.{readable, readAt, exhaustedAt};
+ghost use Rattle.bits.specs.Inner.Gathering.{Gathers};
 
 // A bit position, counted from the first byte's high bit.
 pub struct BitPos(pub usize);
@@ -16,6 +17,13 @@ pub struct BytePlace(pub usize);
 pub enum BitRead {
     Number(u32, BitPos),
     End,
+}
+
+// Whether numbers of so many bits can be read.
+pub fn width_is_readable(bits: usize) -> bool
+    ensures { λ r. ⌜ r ≡ readable bits ⌝ }
+{
+    1 <= bits && bits <= 32
 }
 
 // The byte that a bit position lies in.
@@ -62,6 +70,20 @@ fn eight_bytes(data: &[u8], from: BytePlace) -> u64
     (a << 56) | ((b << 48) | ((c << 40) | ((d << 32) | ((e << 24) | ((f << 16) | ((g << 8) | h))))))
 }
 
+// The bits of the first bytes, up to five of them, as a number.
+fn first_bytes(data: &[u8], count: usize) -> u64
+    requires { ⌜ (count ≤ 5) × (count ≤ length (now «data»)) ⌝ }
+    ensures { λ r. ⌜ Gathers (now («data» .entry)) 0 count r ⌝ }
+{
+    let mut accum: u64 = 0;
+    let mut k: usize = 0;
+    while k < count {
+        accum = (accum << 8) | one_byte(data, BytePlace(k));
+        k += 1;
+    }
+    accum
+}
+
 // Of count gathered bytes, the n bits at an offset.
 fn window(accum: u64, count: usize, offset: usize, n: usize) -> u32
     requires { ⌜ (n ≤ 32) × (count ≤ 8) × (1 ≤ n) × (offset + n ≤ 8 * count) ⌝ }
@@ -72,8 +94,32 @@ fn window(accum: u64, count: usize, offset: usize, n: usize) -> u32
     ((accum >> shift) & mask) as u32
 }
 
-// Reads n bits at a place, as `read` does, for a number that is read now and then: four shortcuts for whole bytes, and the bytes one by one.
-// It takes its bytes by itself and hands the slice on to nobody, so that a caller can keep the slice in registers.
+// The n bits at an offset into the first byte, all of which exist. Four shortcuts for whole bytes: each counts its bytes by a constant, so that a
+// machine can load them at once.
+fn field(data: &[u8], offset: usize, n: usize) -> u32
+    requires { ⌜ (offset < 8) × (1 ≤ n) × (n ≤ 32) × (offset + n ≤ 8 * length (now «data»)) ⌝ }
+    ensures { λ r. ⌜ r ≡ fieldAt (now («data» .entry)) offset n ⌝ }
+{
+    if offset == 0 {
+        if n == 8 {
+            return first_bytes(data, 1) as u32;
+        }
+        if n == 16 {
+            return first_bytes(data, 2) as u32;
+        }
+        if n == 24 {
+            return first_bytes(data, 3) as u32;
+        }
+        if n == 32 {
+            return first_bytes(data, 4) as u32;
+        }
+    }
+    let count = (offset + n + 7) / 8;
+    window(first_bytes(data, count), count, offset, n)
+}
+
+// Reads n bits at a place, as `read` does, for a number that is read now and then. It hands on a part of the slice and never the slice itself, so
+// that a caller can keep the slice in registers.
 pub fn read_seldom(data: &[u8], at: BitPos, n: usize) -> BitRead
     ensures { λ r. ⌜ r ≡ readAt (now («data» .entry)) (at .0) n ⌝ }
 {
@@ -97,38 +143,8 @@ pub fn read_seldom(data: &[u8], at: BitPos, n: usize) -> BitRead
     if data.len() - byte < (offset + n + 7) / 8 {
         return BitRead::End; // not all bits exist
     }
-    if offset == 0 {
-        if n == 8 {
-            let a = data[byte] as u32;
-            return BitRead::Number(a, BitPos(end));
-        }
-        if n == 16 {
-            let a = data[byte] as u32;
-            let b = data[byte + 1] as u32;
-            return BitRead::Number((a << 8) | b, BitPos(end));
-        }
-        if n == 24 {
-            let a = data[byte] as u32;
-            let b = data[byte + 1] as u32;
-            let c = data[byte + 2] as u32;
-            return BitRead::Number((a << 16) | ((b << 8) | c), BitPos(end));
-        }
-        if n == 32 {
-            let a = data[byte] as u32;
-            let b = data[byte + 1] as u32;
-            let c = data[byte + 2] as u32;
-            let d = data[byte + 3] as u32;
-            return BitRead::Number((a << 24) | ((b << 16) | ((c << 8) | d)), BitPos(end));
-        }
-    }
-    let count = (offset + n + 7) / 8;
-    let mut accum: u64 = 0;
-    let mut k: usize = 0;
-    while k < count {
-        accum = (accum << 8) | (data[byte + k] as u64);
-        k += 1;
-    }
-    BitRead::Number(window(accum, count, offset, n), BitPos(end))
+    let rest = &data[byte..];
+    BitRead::Number(field(rest, offset, n), BitPos(end))
 }
 
 // Reads n bits at a place: the number and the place after it, or the end. A read of 0 bits gives 0. All but the last bytes are read eight at
