@@ -9,7 +9,7 @@ use lib.Dec.{T}
 use borrow.Author.Tests.{ltb-true, ltb-false, lt-ltb}
 use lib.Ieee.{Float, nan, inf, fin, up, down, lt, toUnsigned}
 use lib.Ieee.Fits.{down-pos}
-use Rattle.decode.specs.Flag.{flagOf}
+use Rattle.decode.specs.Decode.{flagOf}
 
 abbrev minus-one : Float
 minus-one = fin true 1 (pos 0)

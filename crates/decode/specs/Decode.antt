@@ -1,10 +1,12 @@
--- Decode: document 01, "Numbers and colours"; ISO 32000-1, 8.9.5.2. Each operation is rounded once, in the order written here.
+-- Decode: document 01, "Numbers and colours"; ISO 32000-1, 8.9.5.2. Each operation is rounded once, in the order written here. And the flag that a
+-- float stands for.
 use Prim.Native.Nat.{ℕ, _+_, _-_, _*_, _^_}
 use mathlib.Core.Bool.{cond}
+use lib.Dec.{ltb}
 use mathlib.Core.List.{List}
 use lib.IntN.{pos}
 use lib.ListN.{getD}
-use lib.Ieee.{Float, binary64, add, sub, mul, div, ofInt}
+use lib.Ieee.{Float, binary64, add, sub, mul, div, ofInt, toUnsigned}
 use Rattle.bits.specs.Reading.{readable}
 use Rattle.decode.specs.declared.Range.{Range}
 use Rattle.decode.specs.Floats.{float0, float1}
@@ -29,3 +31,15 @@ maxOf entries kind = getD entries (2 * kind + 1) float1
 abbrev pub rangeOf : List Float → ℕ → ℕ → Range
 rangeOf entries kind w =
     record { min = minOf entries kind; scale = scaleOf w (minOf entries kind) (maxOf entries kind) }
+
+-- where the numbers of each kind start, and how far apart they are
+abbrev pub Ranges : Type 0
+Ranges = ℕ → Range
+
+-- of Decode's entries, at the widths of a coordinate and a component
+abbrev pub ranges : List Float → ℕ → ℕ → Ranges
+ranges entries coord comp kind = rangeOf entries kind (cond (ltb kind 2) coord comp)
+
+-- Rust's `as u32`: fraction cut off, NaN and below 0 to 0, too large to the largest
+abbrev pub flagOf : Float → ℕ
+flagOf x = toUnsigned 32 x

@@ -1,3 +1,4 @@
 pub mod Floats
 pub mod Decode
-pub mod Flag
+pub mod Stored
+pub mod Inner

@@ -3,8 +3,9 @@
 ghost use mathlib.Core.Path.{_≡_};
 ghost use lib.ListN.{getD};
 ghost use lib.Ieee.{binary64, ofBits};
-ghost use Rattle.decode.specs.Decode.{scaleOf, valueOf, minOf, maxOf, rangeOf};
-ghost use Rattle.decode.specs.Flag.{flagOf};
+ghost use Rattle.decode.specs.Decode.{scaleOf, valueOf, minOf, maxOf, rangeOf, flagOf};
+
+pub mod stored;
 
 // (max - min) / (2 ^ bits - 1); 0.0 for a width outside 1..32, which no readable layout has.
 pub fn decode_scale(bits: usize, min: f64, max: f64) -> f64
