@@ -1,3 +1,5 @@
 pub mod Counts
 pub mod Within
-pub mod Rows
+pub mod Lengths
+pub mod Components
+pub mod Agreement

@@ -1,2 +1,3 @@
 pub mod Light
 pub mod Colour
+pub mod Inner

@@ -1,12 +1,7 @@
-// A colour out of its components, and its row of numbers.
+// A colour out of its components.
 ghost use mathlib.Core.Path.{_≡_};
-ghost use mathlib.Core.List.{_++_};
-ghost use Prim.Native.Nat.{_+_};
-ghost use Rattle.lists.specs.Writing.{Offered};
 ghost use Rattle.colour.specs.Light.{clampOf, lesserOf, lightOf};
-ghost use Rattle.colour.specs.Colour.{grayOf, rgbOf, cmykOf, colourOf, colourNumbers};
-
-mod numbers;
+ghost use Rattle.colour.specs.Colour.{grayOf, rgbOf, cmykOf, colourOf};
 
 // The inks of a colour: none, or four.
 pub enum Inks {
@@ -101,37 +96,4 @@ pub fn components_to_color(comps: &[f64]) -> DeviceColor
         return DeviceColor::from_cmyk(a, b, c, clamp01(comps[3]));
     }
     DeviceColor::from_rgb(a, b, c)
-}
-
-// The eight numbers of a colour, r, g, b, mark, c, m, y, k, written to out from index at if there is room for them. Answers the index
-// after what was written.
-pub fn write_numbers(colour: DeviceColor, out: &mut [f64], at: usize) -> usize
-    ensures { λ p. ⌜ Offered (now (out .entry)) (now (out .exit)) at (colourNumbers colour) p ⌝ }
-{
-    if out.len() < at {
-        return at;
-    }
-    let room = out.len() - at;
-    if room < 8 {
-        return at;
-    }
-    numbers::write_eight(out, at, colour)
-}
-
-// The row of a colour and its components, 8 + n numbers, written to out from index at if there is room for it. Answers the index after
-// what was written.
-pub fn write_colour(colour: DeviceColor, comps: &[f64], out: &mut [f64], at: usize) -> usize
-    ensures { λ p. ⌜ Offered (now (out .entry)) (now (out .exit)) at (colourNumbers colour ++ now (comps .entry)) p ⌝ }
-{
-    if out.len() < at {
-        return at;
-    }
-    if out.len() - at < 8 {
-        return at;
-    }
-    if out.len() - at - 8 < comps.len() {
-        return at;
-    }
-    let p = numbers::write_eight(out, at, colour);
-    numbers::write_all(out, p, comps)
 }
