@@ -26,25 +26,25 @@ module _ (F : Format) (ws : List ℕ) (same : (started : Bool) (x : ℕ) → F .
   pub same-none : (started : Bool) (b : List ℕ) → length b < F .first + sum ws → next F started b ≡ none
   same-none started b h = next-none F started b (λ vs e. rw (← Option·some-injective _ _ (sym (same started _) ∙ e)) h)
 
-  abbrev Counted : ℕ → Bool → List ℕ → Type 0
-  Counted k started b = length (readings F k started b) ≡ length b / (F .first + sum ws) * (1 + length ws)
+  abbrev AsMany : ℕ → Bool → List ℕ → Type 0
+  AsMany k started b = length (readings F k started b) ≡ length b / (F .first + sum ws) * (1 + length ws)
 
-  count-none : (k : ℕ) (started : Bool) (b : List ℕ) → length b < F .first + sum ws → Counted k started b
+  count-none : (k : ℕ) (started : Bool) (b : List ℕ) → length b < F .first + sum ws → AsMany k started b
   count-none k started b h = rw (readings-none F k started b (same-none started b h), div-eq-of-lt h, zero-mul)
 
   count-some : (k : ℕ) (started : Bool) (b : List ℕ) → 1 ≤ F .first → F .first + sum ws ≤ length b
-      → Counted k true (drop (F .first + sum ws) b) → Counted (suc k) started b
+      → AsMany k true (drop (F .first + sum ws) b) → AsMany (suc k) started b
   unfolding sum
   count-some k started b f h ih =
       let e = readings-some F k started b (F .first ∷ ws) (same-next started b h) in
       rw (e, length-append, length-numbers, ih, length-drop, div-eq-sub-div (omega arith) h) (omega arith)
 
-  count-same : 1 ≤ F .first → (k : ℕ) (started : Bool) (b : List ℕ) → length b ≤ k → Counted k started b
+  count-same : 1 ≤ F .first → (k : ℕ) (started : Bool) (b : List ℕ) → length b ≤ k → AsMany k started b
   count-same f zero started b h = count-none zero started b (omega arith)
   count-same f (suc k) started b h =
       by-size (decLe (F .first + sum ws) (length b)) (λ g. count-same f k true (drop (F .first + sum ws) b) (rw length-drop (omega arith)))
     where
-      by-size : Dec (F .first + sum ws ≤ length b) → (F .first + sum ws ≤ length b → Counted k true (drop (F .first + sum ws) b)) → Counted (suc k) started b
+      by-size : Dec (F .first + sum ws ≤ length b) → (F .first + sum ws ≤ length b → AsMany k true (drop (F .first + sum ws) b)) → AsMany (suc k) started b
       by-size (yes g) ih = count-some k started b f g (ih g)
       by-size (no g) ih = count-none (suc k) started b (lt-of-not-le g)
 

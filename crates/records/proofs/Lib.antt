@@ -3,6 +3,7 @@ pub mod Readings
 pub mod Counts
 pub mod Loop
 pub mod VertexLoop
+pub mod Shapes
 pub mod Runs
 pub mod Finding
 pub mod Walks

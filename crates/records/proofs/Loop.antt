@@ -1,22 +1,21 @@
 -- After a cut patch the loop of 000 finds no other, since the read that failed wanted no more bits than any later record does. So the loop
 -- ends and gives the raw reading. Assumes nothing.
-use mathlib.Core.Path.{_≡_, refl, sym, ap, _∙_, subst}
-use mathlib.Core.Bool.{Bool, true, false, _&&_, cond}
+use mathlib.Core.Path.{_≡_, refl, sym, ap, _∙_}
+use mathlib.Core.Bool.{Bool, true, false}
 use mathlib.Core.List.{List, [], _∷_}
 use mathlib.Core.Option.{Option, none, some, Option·none-ne-some, Option·some-injective}
 use Prim.Native.Nat.{ℕ, zero, suc, _+_, _-_, _*_, _/_, _^_, _≤_, _<_}
 use native.Mathlib.Nat.{add-zero, add-assoc, mul-le-mul, mul-zero, le-refl, lt-of-not-le}
 use native.Mathlib.Decide.{decLe}
 use native.Mathlib.Omega.{arith}
-use borrow.Author.Tests.{le-leb, lt-leb, leb-true}
-use lib.Dec.{T, leb, eqb}
+use borrow.Author.Tests.{le-leb, lt-leb}
 use lib.ListN.{length, take, drop, replicate, length-drop}
 use lib.Seq.{drop-drop}
 use Rattle.lists.specs.Lists.{All}
 use Rattle.lists.proofs.Members.{all-append, all-replicate}
 use Rattle.bits.specs.declared.BitRead.the-variants.{Number}
 use Rattle.bits.specs.Bits.{bitsOf, number, stream, fieldAt}
-use Rattle.bits.specs.Reading.{readable, readAt}
+use Rattle.bits.specs.Reading.{readAt}
 use Rattle.bits.proofs.Streams.{length-stream}
 use Rattle.bits.proofs.Answers.{answer-number, answer-short}
 use Rattle.records.specs.declared.shape.Kind.{Kind}
@@ -25,7 +24,9 @@ use Rattle.records.specs.declared.shape.Shape.{Shape}
 use Rattle.records.specs.declared.shape.Shape.the-variants.{Follows, Ends}
 use Rattle.records.specs.Layout.{widthsReadable}
 use Rattle.records.specs.Format.{sum, numbers, Format, patchShape, shapeOf, widthsOf, format, next, readings, rawReading}
-use Rattle.records.specs.Loop.{ok, cut, prepend, reads, pushed, patch, flagged, loop}
+use Rattle.records.specs.Loop.{ok, cut, prepend, reads, pushed, patchRound, flagged, loop}
+use Rattle.records.proofs.Layouts.{widths-readable}
+use Rattle.records.proofs.Shapes.{every-patch}
 use Rattle.records.proofs.Readings.{sum-append, sum-replicate, next-fits, next-none, readings-none, readings-some}
 
 -- a width that can be read, m bits at most
@@ -113,14 +114,14 @@ module _ (F : Format) (m : ℕ) (lv : Level F m) (s : List ℕ) (short : length 
     both-end n e z = e ∙ ap some (sym (readings-none F n started (bits p) z))
 
     loop-flag : p / 8 < length s → p + F .first ≤ 8 * length s
-        → loop F s (suc k) started p ≡ patch s (loop F s k) started (flag p) (p + F .first) (F .more started (flag p))
+        → loop F s (suc k) started p ≡ patchRound s (loop F s k) started (flag p) (p + F .first) (F .more started (flag p))
     unfolding loop flagged fieldAt
     loop-flag h e =
         rw (lt-leb (length s) (p / 8) h, sym (answer-number s p (F .first) (lv .first-some) (lv .first-few) e (omega arith)))
 
     by-bits : (n : ℕ) (ws : List ℕ) → p / 8 < length s → p + F .first ≤ 8 * length s → F .more started (flag p) ≡ some ws
         → Dec (p + F .first + sum ws ≤ 8 * length s) → Same (suc k) n started p
-    unfolding patch pushed numbers sum
+    unfolding patchRound pushed numbers sum
     by-bits zero ws l e z (yes b) h f g = absurd (omega (arith, lv .first-some))
     by-bits (suc n) ws l e z (yes b) h f g =
         let few = lv .first-some in
@@ -145,7 +146,7 @@ module _ (F : Format) (m : ℕ) (lv : Level F m) (s : List ℕ) (short : length 
         both-end n (loop-flag l e ∙ rw (z, c .failed, there, none-there)) none-here
 
     by-more : (n : ℕ) (o : Option (List ℕ)) → p / 8 < length s → p + F .first ≤ 8 * length s → F .more started (flag p) ≡ o → Same (suc k) n started p
-    unfolding patch
+    unfolding patchRound
     by-more n none l e z h f g = both-end n (loop-flag l e ∙ rw z) (next-none F started (bits p) (λ ws y. absurd (Option·none-ne-some ws (sym z ∙ y))))
     by-more n (some ws) l e z h f g = by-bits n ws l e z (decLe (p + F .first + sum ws) (8 * length s)) h f g
 
@@ -178,12 +179,7 @@ Filled Ends = Unit {0}
 
 patch-filled : (own : ℕ) → 1 ≤ own → (started : Bool) (x : ℕ) → Filled (patchShape own started x)
 unfolding Filled
-patch-filled own o started x = go (eqb x 0) (started && leb x 3)
-  where
-    go : (a b : Bool) → Filled (cond a (Follows (2 * (4 + own)) 4) (cond b (Follows (2 * own) 2) Ends))
-    go true b = omega arith
-    go false true = omega arith
-    go false false = tt
+patch-filled own o started x = every-patch Filled own started x (omega arith) (omega arith) tt
 
 shape-filled : (kind : Kind) (started : Bool) (x : ℕ) → Filled (shapeOf kind started x)
 unfolding Filled
@@ -223,29 +219,22 @@ module _ (coord comp : ℕ) (c : (1 ≤ coord) × (coord ≤ 32)) (d : (1 ≤ co
         widths = λ started x ws e. shape-widths n (shapeOf kind started x) ws e (shape-filled kind started x);
       }
 
-both : (a b : Bool) → a && b ≡ true → (a ≡ true) × (b ≡ true)
-both true b e = (refl, e)
-both false b e = absurd (subst T (sym e) tt)
-
-bounds : (w : ℕ) → readable w ≡ true → (1 ≤ w) × (w ≤ 32)
-bounds w e = let r = both (leb 1 w) (leb w 32) e in (leb-true 1 w (r .0), leb-true w 32 (r .1))
-
 -- AFTER A CUT PATCH NO PATCH COMES. The loop that 000 has for Types 6 and 7 reads on from the bits left over. It is over within a round more than
 -- there are bits, and has pushed the raw reading, which stops at the first record that is not complete. It would do so in any format; under
 -- 2 ^ 61 bytes are as many as have their bits counted in a usize.
 pub loop-gives-raw-reading : (kind : Kind) (first coord comp n : ℕ) → widthsReadable first coord comp ≡ true → (s : List ℕ) → length s < 2 ^ 61
     → (rounds : ℕ) → 8 * length s < rounds
     → loop (format kind first coord comp n) s rounds false 0 ≡ some (rawReading (format kind first coord comp n) s)
-unfolding widthsReadable
 loop-gives-raw-reading kind first coord comp n e s short =
-    let r = both (readable coord) (readable comp && readable first) e in
-    let t = both (readable comp) (readable first) (r .1) in
+    let w = widths-readable first coord comp e in
     loop-is-reading (format kind first coord comp n) (coord + n * comp)
-    (every-level coord comp (bounds coord (r .0)) (bounds comp (t .0)) kind first n (bounds first (t .1))) s short
+    (every-level coord comp (w .of-coord .some-bits, w .of-coord .few-bits) (w .of-comp .some-bits, w .of-comp .few-bits) kind first n
+    (w .of-first .some-bits, w .of-first .few-bits))
+    s short
 
 -- it does go on: of three bytes of zeros, with flags of 2 bits and coordinates of 32, the first patch is cut at once, and eleven more flags are read
 -- before the data end
 pub goes-on : let F : Format = format Six 2 32 8 0 in
     (loop F (0 ∷ 0 ∷ 0 ∷ []) 12 false 0 ≡ none) × (loop F (0 ∷ 0 ∷ 0 ∷ []) 13 false 0 ≡ some [])
-unfolding loop flagged patch pushed reads readAt fieldAt number stream bitsOf
+unfolding loop flagged patchRound pushed reads readAt fieldAt number stream bitsOf
 goes-on = (refl, refl)

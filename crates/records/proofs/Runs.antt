@@ -17,9 +17,9 @@ use Rattle.bits.specs.declared.BitRead.the-variants.{Number, End}
 use Rattle.bits.specs.Bits.{stream, fieldAt}
 use Rattle.bits.specs.Reading.{readAt}
 use Rattle.bits.proofs.Answers.{found, ended}
-use Rattle.records.specs.declared.raw.Mesh.{Mesh}
+use Rattle.records.specs.declared.shape.Mesh.{Mesh}
 use Rattle.records.specs.Format.{sum, numbers}
-use Rattle.records.specs.Walk.{Readable, Run, numbersAt, widthsAfter}
+use Rattle.records.specs.Inner.Walk.{Readable, Run, numbersAt, widthsAfter, recordSize}
 use Rattle.records.proofs.Layouts.{Width, record-widths}
 use Rattle.records.proofs.Readings.{sum-append, sum-replicate, numbers-then}
 use Rattle.records.proofs.Finding.{sum-after, length-after}
@@ -129,10 +129,10 @@ run-of-one s p width {l} {o} {q} {r} w =
 
 -- ---- a record: its first number, its coordinates, its components
 
-pub record-there : {m : Mesh} {s : List ℕ} (p coords comps : ℕ) → Readable m s
-    → p + m .first + (coords * m .coord + comps * m .comp) ≤ 8 * length s → There s p (m .first ∷ widthsAfter m coords comps) (1 + coords + comps)
+pub record-there : {m : Mesh} {s : List ℕ} (p coords comps : ℕ) → Readable m → length s ≤ mostBytes
+    → p + recordSize m coords comps ≤ 8 * length s → There s p (m .first ∷ widthsAfter m coords comps) (1 + coords + comps)
 unfolding sum
-record-there {m} p coords comps r h =
+record-there {m} p coords comps r short h =
     record {
       sized = omega (arith, length-after m coords comps);
       widths =
@@ -143,7 +143,7 @@ record-there {m} p coords comps r h =
             of-comp = record { some-bits = r .comp-some; few-bits = r .comp-few };
           });
       whole = omega (arith, sum-after m coords comps);
-      short = r .short;
+      short = short;
     }
 
 -- the widths of its numbers after the first

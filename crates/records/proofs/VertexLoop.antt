@@ -21,8 +21,7 @@ use Rattle.records.specs.declared.shape.Kind.{Kind}
 use Rattle.records.specs.declared.shape.Shape.the-variants.{Follows}
 use Rattle.records.specs.Layout.{widthsReadable}
 use Rattle.records.specs.Format.{sum, numbers, Format, shapeOf, format, readings, rawReading}
-use Rattle.records.specs.Loop.{ok, cut, prepend, reads}
-use Rattle.records.specs.VertexLoop.{kept, vertexLoop}
+use Rattle.records.specs.Loop.{ok, cut, prepend, reads, keptVertex, vertexLoop}
 use Rattle.records.proofs.Layouts.{Width, widths-readable, record-widths}
 use Rattle.records.proofs.Readings.{length-from, readings-none, readings-some, readings-enough}
 use Rattle.records.proofs.Counts.{same-next, same-none, vertex-more}
@@ -61,11 +60,11 @@ either false = refl
 module _ (asks : ℕ → Bool) (ws s : List ℕ) where
   loop-whole : (k p : ℕ) (xs : List ℕ) (q : ℕ) → exhaustedAt s p ≡ false → reads s p ws ≡ ok xs q
       → vertexLoop asks ws s (suc k) p ≡ xs ++ vertexLoop asks ws s k q
-  unfolding vertexLoop kept
+  unfolding vertexLoop keptVertex
   loop-whole k p xs q e f = rw (e, and-false, f)
 
   loop-cut : (k p q : ℕ) → reads s p ws ≡ cut q → vertexLoop asks ws s (suc k) p ≡ []
-  unfolding vertexLoop kept
+  unfolding vertexLoop keptVertex
   loop-cut k p q f = rw f (either (asks p && exhaustedAt s p))
 
 -- where a vertex stands, the data is not exhausted

@@ -8,20 +8,20 @@ use native.Mathlib.Omega.{arith}
 use lib.ListN.{length, drop, length-append, length-drop}
 use lib.Seq.{drop-drop}
 use Rattle.bits.specs.Bits.{stream}
-use Rattle.answers.specs.Limits.{mostComponents, mostBytes}
+use Rattle.answers.specs.Limits.{mostComponents}
 use Rattle.records.specs.declared.shape.Kind.{Kind}
-use Rattle.records.specs.declared.raw.Mesh.{Mesh}
+use Rattle.records.specs.declared.shape.Mesh.{Mesh}
 use Rattle.records.specs.Layout.{widthsReadable}
 use Rattle.records.specs.Format.{sum, next, readings, rawReading}
-use Rattle.records.specs.Walk.{formatOf, Readable, numbersAt, widthsAfter, Standing}
+use Rattle.records.specs.Inner.Walk.{formatOf, Readable, numbersAt, widthsAfter, Standing}
 use Rattle.records.proofs.Readings.{length-numbers, readings-none, readings-on}
 use Rattle.records.proofs.Layouts.{widths-readable}
 use Rattle.records.proofs.Finding.{sum-after, length-after}
 
--- what the tests of LAYOUT, COMPONENTS and LENGTH leave
-pub past-tests : (kind : Kind) (first coord comp n : ℕ) (s : List ℕ) → widthsReadable first coord comp ≡ true → n ≤ mostComponents → length s ≤ mostBytes
-    → Readable (record { kind = kind; first = first; coord = coord; comp = comp; n = n }) s
-past-tests kind first coord comp n s e few short =
+-- what the tests of LAYOUT and COMPONENTS leave
+pub past-tests : (kind : Kind) (first coord comp n : ℕ) → widthsReadable first coord comp ≡ true → n ≤ mostComponents
+    → Readable (record { kind = kind; first = first; coord = coord; comp = comp; n = n })
+past-tests kind first coord comp n e few =
     let w = widths-readable first coord comp e in
     record {
       first-some = w .of-first .some-bits;
@@ -31,7 +31,6 @@ past-tests kind first coord comp n s e few short =
       comp-some = w .of-comp .some-bits;
       comp-few = w .of-comp .few-bits;
       n-few = few;
-      short = short;
     }
 
 -- ---- one record
@@ -55,7 +54,7 @@ pub rest-none : (m : Mesh) (s : List ℕ) (started : Bool) (p : ℕ) → next (f
 unfolding restAt
 rest-none m s started p e = readings-none (formatOf m) (length (stream s)) started (drop p (stream s)) e
 
-pub rest-record : {m : Mesh} {s : List ℕ} {started : Bool} {p coords comps end : ℕ} → Readable m s → Standing m s started p coords comps end
+pub rest-record : {m : Mesh} {s : List ℕ} {started : Bool} {p coords comps end : ℕ} → Readable m → Standing m s started p coords comps end
     → restAt m s started p ≡ numbersAt s p (m .first ∷ widthsAfter m coords comps) ++ restAt m s true end
 unfolding restAt numbersAt sum
 rest-record {m} {s} {started} {p} {coords} {comps} {end} r st =
@@ -79,7 +78,7 @@ module _ {m : Mesh} {s : List ℕ} {started : Bool} {at count : ℕ} (w : Counti
   pub count-end : next (formatOf m) started (drop at (stream s)) ≡ none → count ≡ length (rawReading (formatOf m) s)
   count-end e = omega (arith, w .total, ap length (rest-none m s started at e))
 
-  pub count-step : {coords comps end : ℕ} → Readable m s → Standing m s started at coords comps end
+  pub count-step : {coords comps end : ℕ} → Readable m → Standing m s started at coords comps end
       → Counting m s (count + (1 + coords + comps)) end true
   count-step {coords} {comps} {end} r st =
       record {

@@ -1,5 +1,5 @@
 -- The records of the four mesh types, and the raw reading of bytes: document 01, "Records, binary".
-use mathlib.Core.Bool.{Bool, true, false, _&&_, cond}
+use mathlib.Core.Bool.{Bool, true, false, _&&_, _||_, cond}
 use mathlib.Core.List.{List, [], _∷_, _++_}
 use mathlib.Core.Option.{Option, none, some}
 use Prim.Native.Nat.{ℕ, zero, suc, _+_, _*_}
@@ -30,11 +30,19 @@ pub record Format : Type 0 where
   pub first : ℕ
   pub more : Bool → ℕ → Option (List ℕ)
 
--- Types 6 and 7, where a joined patch has so many points of its own. Flag 0: four points more, and four colours. Flags 1 to 3, once there
--- is a patch: two colours. Else the mesh ends.
+-- how many points and colours follow a flag, where a joined patch has so many points of its own: 8 in Type 6, 12 in Type 7
+abbrev pub pointsAfter : ℕ → ℕ → ℕ
+pointsAfter own zero = 4 + own
+pointsAfter own (suc flag) = own
+
+abbrev pub coloursAfter : ℕ → ℕ
+coloursAfter zero = 4
+coloursAfter (suc flag) = 2
+
+-- Types 6 and 7: they follow flag 0, and flags 1 to 3 once there is a patch; else the mesh ends
 abbrev pub patchShape : ℕ → Bool → ℕ → Shape
 patchShape own started flag =
-    cond (eqb flag 0) (Follows (2 * (4 + own)) 4) (cond (started && leb flag 3) (Follows (2 * own) 2) Ends)
+    cond (eqb flag 0 || (started && leb flag 3)) (Follows (2 * pointsAfter own flag) (coloursAfter flag)) Ends
 
 -- how many coordinates and colours follow a record's first number: x and y after a Type 4 flag, y after a Type 5 x
 abbrev pub shapeOf : Kind → Bool → ℕ → Shape

@@ -2,5 +2,4 @@ pub mod Layout
 pub mod Format
 pub mod Raw
 pub mod Loop
-pub mod VertexLoop
-pub mod Walk
+pub mod Inner

@@ -1,19 +1,11 @@
 // Whether a mesh's layout can be read at all: the condition of LAYOUT.
 ghost use mathlib.Core.Path.{_≡_};
-ghost use Rattle.bits.specs.Reading.{readable};
 ghost use Rattle.records.specs.Layout.{firstWidth, widthsReadable, layoutReadable};
 
 // The width of a flag in bits; Type 5 has none.
 pub enum FlagWidth {
     Absent,
     Bits(usize),
-}
-
-// Whether numbers of so many bits can be read.
-fn width_is_readable(bits: usize) -> bool
-    ensures { λ r. ⌜ r ≡ readable bits ⌝ }
-{
-    1 <= bits && bits <= 32
 }
 
 // The width of a record's first number.
@@ -30,7 +22,8 @@ fn first_width(flag: FlagWidth, coord: usize) -> usize
 pub fn widths_are_readable(first: usize, coord: usize, comp: usize) -> bool
     ensures { λ r. ⌜ r ≡ widthsReadable first coord comp ⌝ }
 {
-    width_is_readable(coord) && (width_is_readable(comp) && width_is_readable(first))
+    bits::width_is_readable(coord)
+        && (bits::width_is_readable(comp) && bits::width_is_readable(first))
 }
 
 // Whether a mesh can be read, where Decode has so many entries.

@@ -4,28 +4,21 @@ ghost use mathlib.Core.List.{_∷_};
 ghost use Prim.Native.Nat.{_+_, _*_, _/_, _≤_, _<_};
 ghost use lib.ListN.{length, getD, replicate};
 ghost use Rattle.lists.specs.Writing.{Written};
+ghost use Rattle.answers.specs.Limits.{mostBytes};
 ghost use Rattle.answers.specs.Outcome.{Done};
 ghost use Rattle.records.specs.declared.shape.Kind.the-variants as Kind;
 ghost use Rattle.records.specs.Format.{rawReading};
 ghost use Rattle.records.specs.Raw.{rawRead};
-ghost use Rattle.records.specs.Walk.{formatOf, Readable, Run, numbersAt, widthsAfter, Stands, Vertices, Whole};
+ghost use Rattle.records.specs.Inner.Walk.{formatOf, Readable, Run, recordSize, numbersAt, widthsAfter, FoundAt, Vertices, Counted};
 use crate::layout::widths_are_readable;
 use crate::shape::Kind;
+use crate::shape::Mesh;
 use crate::shape::Shape;
 use crate::shape::shape_of;
 use answers::Answer;
 use answers::Refusal;
 use bits::BitPos;
 use bits::BitRead;
-
-// A mesh's type, the widths of its numbers, and the components of a colour.
-struct Mesh {
-    kind: Kind,
-    first: usize,
-    coord: usize,
-    comp: usize,
-    n: usize,
-}
 
 // What stands at a place: a complete record, with so many coordinates and components after its first number; or none, and the reading ends.
 enum Found {
@@ -37,20 +30,20 @@ enum Found {
     End,
 }
 
-// The bits of a record with so many coordinates and components after its first number.
-fn record_bits(mesh: Mesh, coords: usize, comps: usize) -> usize
-    requires { ⌜ (mesh .first ≤ 32) × (mesh .coord ≤ 32) × (mesh .comp ≤ 32) × (coords ≤ 32) × (comps ≤ 128) ⌝ }
-    ensures { λ r. ⌜ (r ≡ mesh .first + (coords * mesh .coord + comps * mesh .comp)) × (r ≤ 5152) ⌝ }
+// How many bits a record takes, with so many coordinates and components after its first number.
+fn record_size(mesh: Mesh, coords: usize, comps: usize) -> usize
+    requires { ⌜ Readable mesh × (coords ≤ 32) × (comps ≤ 128) ⌝ }
+    ensures { λ r. ⌜ (r ≡ recordSize mesh coords comps) × (r ≤ 5152) ⌝ }
 {
     mesh.first + (coords * mesh.coord + comps * mesh.comp)
 }
 
 // Finds the record at a place from its first number.
 fn find_record(data: &[u8], mesh: Mesh, started: bool, at: BitPos) -> Found
-    requires { ⌜ (Readable mesh (now «data»)) × (at .0 ≤ 8 * length (now «data»)) ⌝ }
-    ensures { λ r. ⌜ Stands mesh (now («data» .entry)) started (at .0) r ⌝ }
+    requires { ⌜ Readable mesh × (length (now «data») ≤ mostBytes) × (at .0 ≤ 8 * length (now «data»)) ⌝ }
+    ensures { λ r. ⌜ FoundAt mesh (now («data» .entry)) started (at .0) r ⌝ }
 {
-    let BitRead::Number(lead, _) = bits::read(data, at, mesh.first) else {
+    let BitRead::Number(lead, _) = bits::read_seldom(data, at, mesh.first) else {
         return Found::End;
     };
     let kind = mesh.kind;
@@ -58,7 +51,7 @@ fn find_record(data: &[u8], mesh: Mesh, started: bool, at: BitPos) -> Found
         return Found::End;
     };
     let comps = colours * mesh.n;
-    let end = at.0 + record_bits(mesh, coords, comps);
+    let end = at.0 + record_size(mesh, coords, comps);
     if end > 8 * data.len() {
         return Found::End; // not all of its bits exist
     }
@@ -71,7 +64,7 @@ fn find_record(data: &[u8], mesh: Mesh, started: bool, at: BitPos) -> Found
 
 // How many numbers the patches have, from their flags alone.
 fn count_patches(data: &[u8], mesh: Mesh) -> usize
-    requires { ⌜ Readable mesh (now «data») ⌝ }
+    requires { ⌜ Readable mesh × (length (now «data») ≤ mostBytes) ⌝ }
     ensures { λ r. ⌜ r ≡ length (rawReading (formatOf mesh) (now («data» .entry))) ⌝ }
 {
     let mut at = BitPos(0);
@@ -89,16 +82,16 @@ fn count_patches(data: &[u8], mesh: Mesh) -> usize
 
 // How many numbers the vertices have that fit into the data, where so many coordinates follow a vertex's first number.
 fn count_vertices(data: &[u8], mesh: Mesh, coords: usize) -> usize
-    requires { ⌜ (Readable mesh (now «data»)) × (coords ≤ 2) ⌝ }
-    ensures { λ r. ⌜ r ≡ 8 * length (now («data» .entry)) / (mesh .first + (coords * mesh .coord + mesh .n * mesh .comp)) * (1 + coords + mesh .n) ⌝ }
+    requires { ⌜ Readable mesh × (length (now «data») ≤ mostBytes) × (coords ≤ 2) ⌝ }
+    ensures { λ r. ⌜ r ≡ 8 * length (now («data» .entry)) / recordSize mesh coords (mesh .n) * (1 + coords + mesh .n) ⌝ }
 {
-    let vertices = 8 * data.len() / record_bits(mesh, coords, mesh.n);
+    let vertices = 8 * data.len() / record_size(mesh, coords, mesh.n);
     vertices * (1 + coords + mesh.n)
 }
 
 // How many numbers the reading has. All vertices of a mesh have the same size; a patch's flag decides its size.
 fn count_numbers(data: &[u8], mesh: Mesh) -> usize
-    requires { ⌜ Readable mesh (now «data») ⌝ }
+    requires { ⌜ Readable mesh × (length (now «data») ≤ mostBytes) ⌝ }
     ensures { λ r. ⌜ r ≡ length (rawReading (formatOf mesh) (now («data» .entry))) ⌝ }
 {
     let kind = mesh.kind;
@@ -145,7 +138,7 @@ fn write_rest(
     out: &mut [u32],
     p: usize,
 ) -> BitPos
-    requires { ⌜ (Readable mesh (now «data»)) × (from .0 + (coords * mesh .coord + comps * mesh .comp) ≤ 8 * length (now «data»)) × (p + (coords + comps) ≤ length (now out)) ⌝ }
+    requires { ⌜ Readable mesh × (length (now «data») ≤ mostBytes) × (from .0 + (coords * mesh .coord + comps * mesh .comp) ≤ 8 * length (now «data»)) × (p + (coords + comps) ≤ length (now out)) ⌝ }
     ensures { λ r. ⌜ r .0 ≡ from .0 + (coords * mesh .coord + comps * mesh .comp) ⌝ }
     ensures { λ r. ⌜ Written (now (out .entry)) (now (out .exit)) p (numbersAt (now («data» .entry)) (from .0) (widthsAfter mesh coords comps)) (p + (coords + comps)) ⌝ }
 {
@@ -176,8 +169,8 @@ fn write_vertex(
     out: &mut [u32],
     p: usize,
 ) -> BitPos
-    requires { ⌜ (Readable mesh (now «data»)) × (from .0 + mesh .first + (coords * mesh .coord + mesh .n * mesh .comp) ≤ 8 * length (now «data»)) × (p + (1 + coords + mesh .n) ≤ length (now out)) ⌝ }
-    ensures { λ r. ⌜ r .0 ≡ from .0 + mesh .first + (coords * mesh .coord + mesh .n * mesh .comp) ⌝ }
+    requires { ⌜ Readable mesh × (length (now «data») ≤ mostBytes) × (from .0 + recordSize mesh coords (mesh .n) ≤ 8 * length (now «data»)) × (p + (1 + coords + mesh .n) ≤ length (now out)) ⌝ }
+    ensures { λ r. ⌜ r .0 ≡ from .0 + recordSize mesh coords (mesh .n) ⌝ }
     ensures { λ r. ⌜ Written (now (out .entry)) (now (out .exit)) p (numbersAt (now («data» .entry)) (from .0) (mesh .first ∷ widthsAfter mesh coords (mesh .n))) (p + (1 + coords + mesh .n)) ⌝ }
 {
     let size = 1 + coords + mesh.n;
@@ -196,7 +189,7 @@ fn write_vertex(
 
 // Writes all vertices, `count` numbers in all; so many coordinates follow a vertex's first number.
 fn write_vertices(data: &[u8], mesh: Mesh, coords: usize, count: usize, out: &mut [u32]) -> usize
-    requires { ⌜ (Readable mesh (now «data»)) × (Vertices mesh coords) × (Whole mesh (now «data») count (now out)) ⌝ }
+    requires { ⌜ Readable mesh × (length (now «data») ≤ mostBytes) × (Vertices mesh coords) × (Counted mesh (now «data») count (now out)) ⌝ }
     ensures { λ p. ⌜ Written (now (out .entry)) (now (out .exit)) 0 (rawReading (formatOf mesh) (now («data» .entry))) p ⌝ }
 {
     let size = 1 + coords + mesh.n;
@@ -211,7 +204,7 @@ fn write_vertices(data: &[u8], mesh: Mesh, coords: usize, count: usize, out: &mu
 
 // Writes all patches, `count` numbers in all; a patch's flag, once written, says how many numbers follow.
 fn write_patches(data: &[u8], mesh: Mesh, count: usize, out: &mut [u32]) -> usize
-    requires { ⌜ (Readable mesh (now «data»)) × (Whole mesh (now «data») count (now out)) ⌝ }
+    requires { ⌜ Readable mesh × (length (now «data») ≤ mostBytes) × (Counted mesh (now «data») count (now out)) ⌝ }
     ensures { λ p. ⌜ Written (now (out .entry)) (now (out .exit)) 0 (rawReading (formatOf mesh) (now («data» .entry))) p ⌝ }
 {
     let kind = mesh.kind;
@@ -235,7 +228,7 @@ fn write_patches(data: &[u8], mesh: Mesh, count: usize, out: &mut [u32]) -> usiz
 // Writes the whole reading, `count` numbers, to the front of the output. An arm for each type: a walk that is called once would be
 // compiled into its caller, and the numbers that a turn needs would no longer fit the registers.
 fn write_numbers(data: &[u8], mesh: Mesh, count: usize, out: &mut [u32]) -> usize
-    requires { ⌜ (Readable mesh (now «data»)) × (Whole mesh (now «data») count (now out)) ⌝ }
+    requires { ⌜ Readable mesh × (length (now «data») ≤ mostBytes) × (Counted mesh (now «data») count (now out)) ⌝ }
     ensures { λ p. ⌜ Written (now (out .entry)) (now (out .exit)) 0 (rawReading (formatOf mesh) (now («data» .entry))) p ⌝ }
 {
     let kind = mesh.kind;

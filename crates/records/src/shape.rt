@@ -1,4 +1,4 @@
-// What follows the first number of a record, in each mesh type.
+// The mesh types, and what follows the first number of a record in each.
 ghost use mathlib.Core.Path.{_≡_};
 ghost use Prim.Native.Nat.{_≤_};
 ghost use Rattle.records.specs.Format.{shapeOf, patchShape};
@@ -9,6 +9,15 @@ pub enum Kind {
     Five,
     Six,
     Seven,
+}
+
+// A mesh's type, the widths of a record's first number, of a coordinate and of a component, and the components of a colour.
+pub struct Mesh {
+    pub kind: Kind,
+    pub first: usize,
+    pub coord: usize,
+    pub comp: usize,
+    pub n: usize,
 }
 
 // So many coordinates and colours follow; or the mesh ends.

@@ -23,12 +23,12 @@ count-patches-requires c κs = search needs
 returns : tie.Need-returns
 returns c =
     let m = c .before .before .before .before .args .mesh in
-    c .count-vertices .ensures ∙ sym (vertex-count (m .kind) (m .first) (m .coord) (m .comp) (m .n) 2 (λ started x. rw (c .before .enum-told .given .1)) (c .before .before .before .before .pre .first-some) _)
+    c .count-vertices .ensures ∙ sym (vertex-count (m .kind) (m .first) (m .coord) (m .comp) (m .n) 2 (λ started x. rw (c .before .enum-told .given .1)) (c .before .before .before .before .pre .0 .first-some) _)
 
 returns-2 : tie.Need-returns-2
 returns-2 c =
     let m = c .before .before .before .before .args .mesh in
-    c .count-vertices2 .ensures ∙ sym (vertex-count (m .kind) (m .first) (m .coord) (m .comp) (m .n) 1 (λ started x. rw (c .before .enum-told2 .given .1)) (c .before .before .before .before .pre .first-some) _)
+    c .count-vertices2 .ensures ∙ sym (vertex-count (m .kind) (m .first) (m .coord) (m .comp) (m .n) 1 (λ started x. rw (c .before .enum-told2 .given .1)) (c .before .before .before .before .pre .0 .first-some) _)
 
 returns-3 : tie.Need-returns-3
 returns-3 c = search needs

@@ -33,35 +33,35 @@ add-count c =
     let i = c .before .before .before .before in
     let r = i .before .before .pre in
     let st = rw (c .before .coords .given .1) at (c .before .before .before .find-record .ensures) in
-    omega (arith, st .coords-few, st .comps-few, i .loop .inv .few, i .loop .inv .within, r .short)
+    omega (arith, st .coords-few, st .comps-few, i .loop .inv .few, i .loop .inv .within, r .1)
 
 add-count-2 : tie.Need-add-count-2 Inv-loop μ-loop
 add-count-2 c =
     let i = c .before .before .before .before in
     let r = i .before .before .pre in
     let st = rw (c .before .coords .given .1) at (c .before .before .before .find-record .ensures) in
-    omega (arith, st .coords-few, st .comps-few, i .loop .inv .few, i .loop .inv .within, r .short)
+    omega (arith, st .coords-few, st .comps-few, i .loop .inv .few, i .loop .inv .within, r .1)
 
 add-count-3 : tie.Need-add-count-3 Inv-loop μ-loop
 add-count-3 c =
     let i = c .before .before .before .before in
     let r = i .before .before .pre in
     let st = rw (c .before .coords .given .1) at (c .before .before .before .find-record .ensures) in
-    omega (arith, st .coords-few, st .comps-few, i .loop .inv .few, i .loop .inv .within, r .short)
+    omega (arith, st .coords-few, st .comps-few, i .loop .inv .few, i .loop .inv .within, r .1)
 
 loop-less : tie.Need-loop-less Inv-loop μ-loop
 loop-less c =
     let i = c .before .before .before .before in
     let r = i .before .before .pre in
     let st = rw (c .before .coords .given .1) at (c .before .before .before .find-record .ensures) in
-    omega (arith, st .ends, st .whole, r .first-some)
+    omega (arith, st .ends, st .whole, r .0 .first-some)
 
 loop-again : tie.Need-loop-again Inv-loop μ-loop
 loop-again c =
     let i = c .before .before .before .before in
     let r = i .before .before .pre in
     let st = rw (c .before .coords .given .1) at (c .before .before .before .find-record .ensures) in
-    count-step (i .loop .inv) r st
+    count-step (i .loop .inv) (r .0) st
 
 pub count-patches-spec : {M : Type 1} → statement M
 count-patches-spec =

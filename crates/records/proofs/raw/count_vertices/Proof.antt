@@ -8,8 +8,8 @@ use Rattle.records.proofs.raw.count_vertices.Tie as tie
 mul-vertices : tie.Need-mul-vertices
 mul-vertices c = search needs
 
-record-bits-requires : tie.Need-record-bits-requires
-record-bits-requires c κs = search needs
+record-size-requires : tie.Need-record-size-requires
+record-size-requires c κs = search needs
 
 div-vertices : tie.Need-div-vertices
 div-vertices c = search needs
@@ -21,17 +21,17 @@ add-result-2 : tie.Need-add-result-2
 add-result-2 c = search needs
 
 mul-result : tie.Need-mul-result
-mul-result c = let r = c .before .before .before .pre .0 in record { fits = vertices-fit _ _ _ (r .short) (omega arith) }
+mul-result c = record { fits = vertices-fit _ _ _ (c .before .before .before .pre .1) (omega arith) }
 
 returns : tie.Need-returns
-returns c = rw (c .before .record-bits .ensures .0)
+returns c = rw (c .before .record-size .ensures .0)
 
 pub count-vertices-spec : {M : Type 1} → statement M
 count-vertices-spec =
     tie.close
     (tie.spec
     mul-vertices
-    record-bits-requires
+    record-size-requires
     div-vertices
     add-result
     add-result-2

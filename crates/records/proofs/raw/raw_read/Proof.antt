@@ -33,7 +33,7 @@ returns-3 c =
 count-numbers-requires : tie.Need-count-numbers-requires
 count-numbers-requires c κs =
     let e = sym (c .before .before .before .widths-are-readable .ensures) ∙ not-false _ (c .before .before .if1 .left) in
-    past-tests _ _ _ _ _ _ e (c .before .if2 .left) (c .if3 .left)
+    (past-tests _ _ _ _ _ e (c .before .if2 .left), c .if3 .left)
 
 returns-4 : tie.Need-returns-4
 unfolding rawRead
@@ -44,7 +44,7 @@ returns-4 c =
 write-numbers-requires : tie.Need-write-numbers-requires
 write-numbers-requires c κs =
     let e = sym (c .before .before .before .before .before .before .widths-are-readable .ensures) ∙ not-false _ (c .before .before .before .before .before .if1 .left) in
-    (past-tests _ _ _ _ _ _ e (c .before .before .before .before .if2 .left) (c .before .before .before .if3 .left), record { counted = c .before .before .count-numbers .ensures; room = c .before .if4 .left })
+    (past-tests _ _ _ _ _ e (c .before .before .before .before .if2 .left), c .before .before .before .if3 .left, record { is = c .before .before .count-numbers .ensures; room = c .before .if4 .left })
 
 same-length : tie.Need-same-length
 same-length c = search needs

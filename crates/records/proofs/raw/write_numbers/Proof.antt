@@ -7,13 +7,13 @@ enum-told : tie.Need-enum-told
 enum-told c = search needs
 
 write-vertices-requires : tie.Need-write-vertices-requires
-write-vertices-requires c κs = let z = c .before .before .before .before .before .pre in (z .0, record { shape = λ started x. rw (c .before .enum-told .given .1) }, z .1)
+write-vertices-requires c κs = let z = c .before .before .before .before .before .pre in (z .0, z .1, record { shape = λ started x. rw (c .before .enum-told .given .1) }, z .2)
 
 enum-told-2 : tie.Need-enum-told-2
 enum-told-2 c = search needs
 
 write-vertices-requires-2 : tie.Need-write-vertices-requires-2
-write-vertices-requires-2 c κs = let z = c .before .before .before .before .before .pre in (z .0, record { shape = λ started x. rw (c .before .enum-told2 .given .1) }, z .1)
+write-vertices-requires-2 c κs = let z = c .before .before .before .before .before .pre in (z .0, z .1, record { shape = λ started x. rw (c .before .enum-told2 .given .1) }, z .2)
 
 enum-told-3 : tie.Need-enum-told-3
 enum-told-3 c = search needs

@@ -16,7 +16,7 @@ abbrev μ-loop : tie.MeasureT-loop
 μ-loop «data» mesh count out₀ kind at₀ p₀ started₀ out at p started = count - p
 
 loop-holds : tie.Need-loop-holds Inv-loop μ-loop
-loop-holds c = let z = c .before .before .pre in fill-start (z .0) (z .1)
+loop-holds c = let z = c .before .before .pre in fill-start (z .0) (z .1) (z .2)
 
 write-run-requires : tie.Need-write-run-requires Inv-loop μ-loop
 write-run-requires c κs = first-run (c .before .before .loop .inv) (c .before .loop-test .taken)

@@ -5,7 +5,7 @@ use mathlib.Core.List.{_∷_}
 use native.Mathlib.Omega.{arith}
 use borrow.Author.Needs.{needs}
 use Rattle.records.specs.Format.{sum}
-use Rattle.records.specs.Walk.{widthsAfter}
+use Rattle.records.specs.Inner.Walk.{widthsAfter}
 use Rattle.records.proofs.Finding.{sum-after}
 use Rattle.records.proofs.Runs.{Upto, upto-start, upto-end, upto-goes-on, upto-step, record-there}
 use Rattle.records.proofs.raw.write_vertex.Statement.{statement}
@@ -28,7 +28,7 @@ loop-holds : tie.Need-loop-holds Inv-loop μ-loop
 loop-holds c =
     let i = c .before .before .before in
     let z = i .pre in
-    upto-start _ _ (record-there _ (i .args .coords) _ (z .0) (z .1)) (z .2)
+    upto-start _ _ (record-there _ (i .args .coords) _ (z .0) (z .1) (z .2)) (z .3)
 
 width-at-requires : tie.Need-width-at-requires Inv-loop μ-loop
 width-at-requires c κs = search needs

@@ -4,7 +4,7 @@ use mathlib.Core.Path.{sym}
 use mathlib.Core.Bool.{Bool, true, false}
 use native.Mathlib.Omega.{arith}
 use borrow.Author.Needs.{needs}
-use Rattle.records.proofs.Finding.{small}
+use Rattle.records.proofs.Shapes.{small}
 use Rattle.records.proofs.Filling.{Filling, fill-start, fill-end, vertex-turn, turn-done}
 use Rattle.records.proofs.raw.write_vertices.Statement.{statement}
 use Rattle.records.proofs.raw.write_vertices.Tie as tie
@@ -16,27 +16,27 @@ abbrev μ-loop : tie.MeasureT-loop
 μ-loop «data» mesh coords count out₀ size at₀ p₀ out at p = count - p
 
 add-size : tie.Need-add-size Inv-loop μ-loop
-add-size c = let z = c .before .before .pre in omega (arith, small false 0 (z .0) (sym (z .1 .shape false 0)))
+add-size c = let z = c .before .before .pre in omega (arith, small false 0 (z .0) (sym (z .2 .shape false 0)))
 
 add-size-2 : tie.Need-add-size-2 Inv-loop μ-loop
-add-size-2 c = let z = c .before .before .before .pre in omega (arith, small false 0 (z .0) (sym (z .1 .shape false 0)))
+add-size-2 c = let z = c .before .before .before .pre in omega (arith, small false 0 (z .0) (sym (z .2 .shape false 0)))
 
 loop-holds : tie.Need-loop-holds Inv-loop μ-loop
-loop-holds c = let z = c .before .before .before .pre in (false, fill-start (z .0) (z .2))
+loop-holds c = let z = c .before .before .before .pre in (false, fill-start (z .0) (z .1) (z .3))
 
 write-vertex-requires : tie.Need-write-vertex-requires Inv-loop μ-loop
 write-vertex-requires c κs =
     let i = c .before in
     let w = i .before .loop .inv .1 in
-    let t = vertex-turn w (i .loop-test .taken) (i .before .before .before .before .before .pre .1) in
-    (w .readable, t .standing .whole, t .room)
+    let t = vertex-turn w (i .loop-test .taken) (i .before .before .before .before .before .pre .2) in
+    (w .readable, w .short, t .standing .whole, t .room)
 
 add-p : tie.Need-add-p Inv-loop μ-loop
 add-p c =
     let i = c .before .before .before .before in
     let w = i .before .loop .inv .1 in
     let s = i .before .before .before .before .before in
-    let t = vertex-turn w (i .loop-test .taken) (s .pre .1) in
+    let t = vertex-turn w (i .loop-test .taken) (s .pre .2) in
     omega (arith, t .within, s .fits .count .fits)
 
 loop-less : tie.Need-loop-less Inv-loop μ-loop
@@ -46,7 +46,7 @@ loop-again : tie.Need-loop-again Inv-loop μ-loop
 loop-again c =
     let i = c .before .before .before .before in
     let w = i .before .loop .inv .1 in
-    let t = vertex-turn w (i .loop-test .taken) (i .before .before .before .before .before .pre .1) in
+    let t = vertex-turn w (i .loop-test .taken) (i .before .before .before .before .before .pre .2) in
     let f = c .before .before .write-vertex .ensures in
     (true, turn-done w t (f .0) (f .1))
 
