@@ -14,7 +14,7 @@ use Rattle.bits.specs.Bits.{bitsOf}
 use Rattle.bits.proofs.Digits.{length-bits, bits-below}
 use Rattle.records.specs.declared.shape.Kind.{Kind}
 use Rattle.records.specs.Format.{Format, format, shapeOf}
-use Rattle.packing.specs.Accepted.{joinedTo, field, packed}
+use Rattle.packing.specs.Packed.{prefixed, field, packed}
 use Rattle.packing.proofs.Shapes.{follows-some}
 
 -- a number that is accepted
@@ -28,7 +28,7 @@ pub field-some : (w x : ℕ) (o : Option (List ℕ)) (bits : List ℕ) → field
 unfolding field
 field-some w x o bits e = go (ltb x (2 ^ w)) o refl e
   where
-    go : (t : Bool) (o : Option (List ℕ)) → ltb x (2 ^ w) ≡ t → cond t (joinedTo (bitsOf w x) o) none ≡ some bits → Field w x o bits
+    go : (t : Bool) (o : Option (List ℕ)) → ltb x (2 ^ w) ≡ t → cond t (prefixed (bitsOf w x) o) none ≡ some bits → Field w x o bits
     go true (some r) q e = record { rest = r; after = refl; is = sym (Option·some-injective _ _ e); fits = ltb-true x (2 ^ w) q }
     go true none q e = absurd (Option·none-ne-some bits e)
     go false o q e = absurd (Option·none-ne-some bits e)

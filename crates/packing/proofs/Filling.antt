@@ -13,7 +13,7 @@ use Rattle.lists.proofs.Members.{all-append, all-take, all-drop, all-replicate}
 use Rattle.bits.specs.Bits.{bitsOf, number, stream}
 use Rattle.bits.proofs.Digits.{length-bits, bits-of-number, number-of-bits}
 use Rattle.bits.proofs.Streams.{length-stream}
-use Rattle.packing.specs.Bytes.{byteCount, octets, bytes}
+use Rattle.packing.specs.Packed.{byteCount, octets, bytes}
 
 -- ---- bytes from bits
 

@@ -15,9 +15,9 @@ use Rattle.answers.proofs.Outcomes.{was-refused, no-room, all-written}
 use Rattle.bits.specs.Bits.{bitsOf}
 use Rattle.packing.specs.declared.put.Waiting.{Waiting}
 use Rattle.packing.specs.declared.measure.Measured.the-variants.{Bits, Unfit}
-use Rattle.packing.specs.Bytes.{byteCount, bytes}
+use Rattle.packing.specs.Packed.{byteCount, bytes}
 use Rattle.packing.specs.Writer.{inBytes}
-use Rattle.packing.specs.Passes.{measureOf, Roomy, Put}
+use Rattle.packing.specs.Inner.Passes.{measureOf, Roomy, Put}
 use Rattle.packing.proofs.Filling.{length-bytes, bytes-after}
 
 -- ---- what the first pass found

@@ -9,4 +9,3 @@ pub mod Accepting
 pub mod Refusing
 pub mod RoundTrip
 pub mod Demand
-pub mod Examples

@@ -15,8 +15,8 @@ use Rattle.bits.specs.Bits.{bitsOf, stream}
 use Rattle.bits.proofs.Digits.{length-bits, bits-mod, bits-add, bits-join}
 use Rattle.bits.proofs.Streams.{length-stream, stream-append}
 use Rattle.packing.specs.declared.put.Waiting.{Waiting}
-use Rattle.packing.specs.Bytes.{byteCount, bytes}
-use Rattle.packing.specs.Passes.{Stored, Put}
+use Rattle.packing.specs.Packed.{byteCount, bytes}
+use Rattle.packing.specs.Inner.Passes.{Stored, Put}
 use Rattle.packing.proofs.Filling.{bytes-are, zeros}
 
 -- ---- bytes stored

@@ -8,30 +8,32 @@ use native.Mathlib.Numerals.{add-one}
 use native.Mathlib.Omega.{arith}
 use lib.Dec.{leb, ltb}
 use borrow.Author.Tests.{leb-true, leb-false, ltb-true}
-use lib.ListN.{length, getD, drop, replicate, length-append, length-replicate, length-drop, take-append-drop}
+use lib.ListN.{length, getD, drop, replicate, length-drop, take-append-drop}
 use lib.Seq.{drop-cons, drop-drop}
 use Rattle.lists.specs.Lists.{flat}
 use Rattle.bits.specs.Bits.{bitsOf}
 use Rattle.records.specs.Format.{Format}
-use Rattle.packing.specs.declared.mesh.Mesh.{Mesh}
-use Rattle.packing.specs.Accepted.{joinedTo, field, packed}
-use Rattle.packing.specs.Passes.{run, fits, runBits, formatOf, recordFits, recordBits}
+use Rattle.records.specs.declared.shape.Mesh.{Mesh}
+use Rattle.packing.specs.Packed.{prefixed, field, packed}
+use Rattle.records.specs.Inner.Walk.{formatOf, widthsAfter}
+use Rattle.packing.specs.Inner.Passes.{runAt, fits, runBits, recordFits, recordBits}
+use Rattle.records.proofs.Finding.{length-after}
 use Rattle.packing.proofs.Runs.{and-left, and-right, length-run}
 
 -- bits before the rest, if a test holds
 abbrev pub guarded : Bool → List ℕ → Option (List ℕ) → Option (List ℕ)
-guarded test b rest = cond test (joinedTo b rest) none
+guarded test b rest = cond test (prefixed b rest) none
 
-pub joined-nothing : (o : Option (List ℕ)) → o ≡ joinedTo [] o
-joined-nothing none = refl
-joined-nothing (some r) = refl
+pub prefixed-nothing : (o : Option (List ℕ)) → o ≡ prefixed [] o
+prefixed-nothing none = refl
+prefixed-nothing (some r) = refl
 
-pub joined-twice : (a b : List ℕ) (o : Option (List ℕ)) → joinedTo a (joinedTo b o) ≡ joinedTo (a ++ b) o
-joined-twice a b none = refl
-joined-twice a b (some r) = ap some (sym (append-assoc a b r))
+pub prefixed-twice : (a b : List ℕ) (o : Option (List ℕ)) → prefixed a (prefixed b o) ≡ prefixed (a ++ b) o
+prefixed-twice a b none = refl
+prefixed-twice a b (some r) = ap some (sym (append-assoc a b r))
 
 guarded-then : (s t : Bool) (a b : List ℕ) (o : Option (List ℕ)) → guarded s a (guarded t b o) ≡ guarded (s && t) (a ++ b) o
-guarded-then true true a b o = joined-twice a b o
+guarded-then true true a b o = prefixed-twice a b o
 guarded-then true false a b o = refl
 guarded-then false t a b o = refl
 
@@ -45,7 +47,7 @@ module _ (F : Format) (started : Bool) where
   packed-run : (w : ℕ) (ys due zs : List ℕ)
       → packed F started (replicate (length ys) w ++ due) (ys ++ zs) ≡ guarded (fits w ys) (runBits w ys) (packed F started due zs)
   unfolding packed field fits flat
-  packed-run w [] due zs = joined-nothing (packed F started due zs)
+  packed-run w [] due zs = prefixed-nothing (packed F started due zs)
   packed-run w (y ∷ ys) due zs =
       rw (packed-run w ys due zs) (guarded-then (ltb y (2 ^ w)) (fits w ys) (bitsOf w y) (runBits w ys) (packed F started due zs))
 
@@ -77,13 +79,13 @@ module _ (F : Format) (started : Bool) where
 -- ---- a record at an index of a list
 
 rest-of-record : (xs : List ℕ) (i coords comps : ℕ)
-    → drop (suc i) xs ≡ run xs (i + 1) coords ++ (run xs (i + 1 + coords) comps ++ drop (i + (1 + coords + comps)) xs)
+    → drop (suc i) xs ≡ runAt xs (i + 1) coords ++ (runAt xs (i + 1 + coords) comps ++ drop (i + (1 + coords + comps)) xs)
 rest-of-record xs i coords comps =
     let e : i + (1 + coords + comps) ≡ i + 1 + coords + comps = omega arith in
     rw (e, ← drop-drop comps (i + 1 + coords) xs, take-append-drop comps, ← drop-drop coords (i + 1) xs, take-append-drop coords, add-one)
 
 module _ (m : Mesh) (started : Bool) (coords comps : ℕ) (xs : List ℕ) (i : ℕ) (h : i < length xs)
-    (e : formatOf m .more started (getD xs i 0) ≡ some (replicate coords (m .coord) ++ replicate comps (m .comp))) where
+    (e : formatOf m .more started (getD xs i 0) ≡ some (widthsAfter m coords comps)) where
   -- the bits of a list from a record on
   pub packed-record : packed (formatOf m) started [] (drop i xs)
       ≡ guarded (recordFits m coords comps xs i) (recordBits m coords comps xs i) (packed (formatOf m) true [] (drop (i + (1 + coords + comps)) xs))
@@ -93,13 +95,13 @@ module _ (m : Mesh) (started : Bool) (coords comps : ℕ) (xs : List ℕ) (i : �
       ∙ by-length (leb (i + (1 + coords + comps)) (length xs)) refl
     where
       due : List ℕ
-      due = replicate coords (m .coord) ++ replicate comps (m .comp)
+      due = widthsAfter m coords comps
 
       ys : List ℕ
-      ys = run xs (i + 1) coords
+      ys = runAt xs (i + 1) coords
 
       zs : List ℕ
-      zs = run xs (i + 1 + coords) comps
+      zs = runAt xs (i + 1 + coords) comps
 
       rest : List ℕ
       rest = drop (i + (1 + coords + comps)) xs
@@ -126,7 +128,7 @@ module _ (m : Mesh) (started : Bool) (coords comps : ℕ) (xs : List ℕ) (i : �
           ∙ guarded-then first runs (bitsOf (m .first) (getD xs i 0)) (runBits (m .coord) ys ++ runBits (m .comp) zs) (packed (formatOf m) true [] rest)
       by-length false q =
           let l : length xs < i + (1 + coords + comps) = leb-false _ _ q in
-          let k : length due ≡ coords + comps = simp (length-append, length-replicate) in
+          let k : length due ≡ coords + comps = length-after m coords comps in
           ap (guarded first (bitsOf (m .first) (getD xs i 0))) (packed-short (formatOf m) true due (drop (suc i) xs) (rw (length-drop, k) (omega arith)))
           ∙ guarded-none first (bitsOf (m .first) (getD xs i 0))
 
@@ -135,14 +137,14 @@ module _ (m : Mesh) (started : Bool) (coords comps : ℕ) (xs : List ℕ) (i : �
 pub record Parts (m : Mesh) (coords comps : ℕ) (xs : List ℕ) (i : ℕ) : Type 0 where
   pub there : i + (1 + coords + comps) ≤ length xs
   pub first : getD xs i 0 < 2 ^ (m .first)
-  pub coords-fit : fits (m .coord) (run xs (i + 1) coords) ≡ true
-  pub comps-fit : fits (m .comp) (run xs (i + 1 + coords) comps) ≡ true
+  pub coords-fit : fits (m .coord) (runAt xs (i + 1) coords) ≡ true
+  pub comps-fit : fits (m .comp) (runAt xs (i + 1 + coords) comps) ≡ true
 
 pub fits-parts : (m : Mesh) (coords comps : ℕ) (xs : List ℕ) (i : ℕ) → recordFits m coords comps xs i ≡ true → Parts m coords comps xs i
 fits-parts m coords comps xs i e =
     let first = ltb (getD xs i 0) (2 ^ (m .first)) in
-    let ys = fits (m .coord) (run xs (i + 1) coords) in
-    let zs = fits (m .comp) (run xs (i + 1 + coords) comps) in
+    let ys = fits (m .coord) (runAt xs (i + 1) coords) in
+    let zs = fits (m .comp) (runAt xs (i + 1 + coords) comps) in
     let rest = and-right (leb (i + (1 + coords + comps)) (length xs)) (first && (ys && zs)) e in
     let runs = and-right first (ys && zs) rest in
     record {

@@ -1,6 +1,6 @@
 -- The refusals, row by row: what a call has passed that was not refused. Assumes nothing.
 use mathlib.Core.Path.{_≡_, refl}
-use mathlib.Core.Bool.{Bool, true, false, not}
+use mathlib.Core.Bool.{true, false, not}
 use mathlib.Core.List.{List, []}
 use mathlib.Core.Option.{Option, none, some}
 use Prim.Native.Nat.{ℕ, _≤_}
@@ -8,20 +8,15 @@ use native.Mathlib.Omega.{arith}
 use borrow.Author.Tests.{ltb-false, not-false}
 use lib.Dec.{ltb}
 use lib.ListN.{length}
-use Rattle.answers.specs.declared.Refusal.{Refusal}
 use Rattle.answers.specs.declared.Refusal.the-variants.{Layout, Components, Length, Room, Thin}
 use Rattle.answers.specs.Limits.{mostComponents, mostNumbers}
-use Rattle.answers.specs.Outcome.{Outcome, wrote, refuseIf, fitted}
+use Rattle.answers.specs.Outcome.{wrote, refuseIf, fitted}
+use Rattle.answers.proofs.Outcomes.{passed}
 use Rattle.records.specs.declared.shape.Kind.{Kind}
 use Rattle.records.specs.Layout.{widthsReadable}
 use Rattle.records.specs.Format.{format}
-use Rattle.packing.specs.Bytes.{bytes}
-use Rattle.packing.specs.Accepted.{packed}
+use Rattle.packing.specs.Packed.{bytes, packed}
 use Rattle.packing.specs.Writer.{thin, inBytes, rawWrite}
-
-passed : (t : Bool) (r : Refusal) (o : Outcome ℕ) (k : ℕ) (bs : List ℕ) → refuseIf t r o ≡ wrote k bs → (t ≡ false) × (o ≡ wrote k bs)
-passed true r o k bs e = absurd (let z : _≡_ {A = ℕ} 0 1 = cc in omega arith)
-passed false r o k bs e = (refl, e)
 
 -- what an accepted call has passed
 pub record Accepted (kind : Kind) (first coord comp n : ℕ) (xs : List ℕ) (k : ℕ) (bs : List ℕ) : Type 0 where
@@ -39,7 +34,7 @@ in-bytes-some : (o : Option (List ℕ)) (room k : ℕ) (bs : List ℕ) → inByt
 unfolding inBytes fitted
 in-bytes-some none room k bs e = absurd (let z : _≡_ {A = ℕ} 0 1 = cc in omega arith)
 in-bytes-some (some bits) room k bs e =
-    let p = passed (ltb room (length (bytes bits))) Room (wrote (length (bytes bits)) (bytes bits)) k bs e in
+    let p = passed (ltb room (length (bytes bits))) Room (wrote (length (bytes bits)) (bytes bits)) e in
     let q = p .1 in
     (bits, refl, cc, cc)
 
@@ -51,10 +46,10 @@ accepted kind first coord comp n xs room k bs e =
     let o3 = refuseIf (thin kind first coord comp n) Thin o in
     let o2 = refuseIf (ltb mostNumbers (length xs)) Length o3 in
     let o1 = refuseIf (ltb mostComponents n) Components o2 in
-    let p0 = passed (not (widthsReadable first coord comp)) Layout o1 k bs e in
-    let p1 = passed (ltb mostComponents n) Components o2 k bs (p0 .1) in
-    let p2 = passed (ltb mostNumbers (length xs)) Length o3 k bs (p1 .1) in
-    let p3 = passed (thin kind first coord comp n) Thin o k bs (p2 .1) in
+    let p0 = passed (not (widthsReadable first coord comp)) Layout o1 e in
+    let p1 = passed (ltb mostComponents n) Components o2 (p0 .1) in
+    let p2 = passed (ltb mostNumbers (length xs)) Length o3 (p1 .1) in
+    let p3 = passed (thin kind first coord comp n) Thin o (p2 .1) in
     let b = in-bytes-some (packed (format kind first coord comp n) false [] xs) room k bs (p3 .1) in
     record {
       widths = not-false (widthsReadable first coord comp) (p0 .0);

@@ -17,11 +17,11 @@ use Rattle.records.specs.declared.shape.Kind.the-variants.{Four, Five, Six, Sev
 use Rattle.records.specs.declared.shape.Shape.{Shape}
 use Rattle.records.specs.declared.shape.Shape.the-variants.{Follows, Ends}
 use Rattle.records.specs.Format.{Format, format, patchShape, shapeOf, sum, numbers, next, readings, rawReading}
+use Rattle.records.proofs.Shapes.{every-patch}
 use Rattle.records.proofs.Readings.{sum-append, sum-replicate, next-fits, next-none, readings-none, readings-some}
-use Rattle.packing.specs.Bytes.{bytes}
-use Rattle.packing.specs.Accepted.{packed}
+use Rattle.packing.specs.Packed.{bytes, packed}
 use Rattle.packing.specs.Writer.{thin}
-use Rattle.packing.proofs.Shapes.{every-patch, follows-some}
+use Rattle.packing.proofs.Shapes.{follows-some}
 use Rattle.packing.proofs.Filling.{filler, length-filler, stream-bytes}
 use Rattle.packing.proofs.Accepting.{Field, field-some, record-some}
 

@@ -1,4 +1,3 @@
-pub mod Bytes
-pub mod Accepted
+pub mod Packed
 pub mod Writer
-pub mod Passes
+pub mod Inner

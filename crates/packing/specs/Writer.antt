@@ -12,8 +12,7 @@ use Rattle.records.specs.declared.shape.Kind.{Kind}
 use Rattle.records.specs.declared.shape.Kind.the-variants.{Four, Five, Six, Seven}
 use Rattle.records.specs.Layout.{widthsReadable}
 use Rattle.records.specs.Format.{format}
-use Rattle.packing.specs.Bytes.{bytes}
-use Rattle.packing.specs.Accepted.{packed}
+use Rattle.packing.specs.Packed.{bytes, packed}
 
 -- THIN: in Types 4 and 5 one vertex takes under 8 bits
 unfoldable pub thin : Kind → ℕ → ℕ → ℕ → ℕ → Bool

@@ -4,8 +4,8 @@ ghost use Rattle.answers.specs.Outcome.{Done};
 ghost use Rattle.records.specs.declared.shape.Kind.the-variants.{Four, Five, Six, Seven};
 ghost use Rattle.packing.specs.Writer.{rawWrite};
 
+mod finding;
 mod measure;
-mod mesh;
 mod put;
 mod write;
 

@@ -5,11 +5,13 @@ ghost use mathlib.Core.List.{[]};
 ghost use Prim.Native.Nat.{_+_, _*_, _^_, _≤_, _<_};
 ghost use lib.Dec.{ltb};
 ghost use lib.ListN.{length};
-ghost use Rattle.packing.specs.Accepted.{packed};
-ghost use Rattle.packing.specs.Passes.{run, fits, recordFits, recordSize, formatOf, Readable, measureOf};
-use crate::mesh::Found;
-use crate::mesh::Mesh;
-use crate::mesh::record_at;
+ghost use Rattle.answers.specs.Limits.{mostNumbers};
+ghost use Rattle.records.specs.Inner.Walk.{formatOf, Readable, recordSize};
+ghost use Rattle.packing.specs.Packed.{packed};
+ghost use Rattle.packing.specs.Inner.Passes.{runAt, fits, recordFits, measureOf};
+use crate::finding::Found;
+use crate::finding::record_at;
+use records::shape::Mesh;
 
 // How many bits a list takes, or that it is not accepted.
 pub enum Measured {
@@ -28,7 +30,7 @@ pub fn fits_width(x: u32, w: usize) -> bool
 // Whether each number of a run fits a width. Their or fits exactly when each does.
 pub fn run_fits(numbers: &[u32], first: usize, count: usize, w: usize) -> bool
     requires { ⌜ (first + count ≤ length (now numbers)) × (w ≤ 32) ⌝ }
-    ensures { λ r. ⌜ r ≡ fits w (run (now (numbers .entry)) first count) ⌝ }
+    ensures { λ r. ⌜ r ≡ fits w (runAt (now (numbers .entry)) first count) ⌝ }
 {
     let mut all: u32 = 0;
     let mut k: usize = 0;
@@ -41,7 +43,7 @@ pub fn run_fits(numbers: &[u32], first: usize, count: usize, w: usize) -> bool
 
 // Whether the record at an index is there and each number of it fits its width.
 pub fn record_fits(numbers: &[u32], i: usize, mesh: Mesh, coords: usize, comps: usize) -> bool
-    requires { ⌜ (i < length (now numbers)) × (coords ≤ 32) × (comps ≤ 128) × Readable mesh ⌝ }
+    requires { ⌜ Readable mesh × (i < length (now numbers)) × (coords ≤ 32) × (comps ≤ 128) ⌝ }
     ensures { λ r. ⌜ r ≡ recordFits mesh coords comps (now (numbers .entry)) i ⌝ }
 {
     if numbers.len() - i < 1 + coords + comps {
@@ -56,16 +58,14 @@ pub fn record_fits(numbers: &[u32], i: usize, mesh: Mesh, coords: usize, comps: 
 
 // How many bits a record takes.
 pub fn record_size(mesh: Mesh, coords: usize, comps: usize) -> usize
-    requires { ⌜ (coords ≤ 32) × (comps ≤ 128) × Readable mesh ⌝ }
+    requires { ⌜ Readable mesh × (coords ≤ 32) × (comps ≤ 128) ⌝ }
     ensures { λ r. ⌜ (r ≡ recordSize mesh coords comps) × (r ≤ 32 * (1 + coords + comps)) ⌝ }
 {
-    let of_coords = coords * mesh.coord;
-    let of_comps = comps * mesh.comp;
-    mesh.first + of_coords + of_comps
+    mesh.first + (coords * mesh.coord + comps * mesh.comp)
 }
 
 pub fn measure(numbers: &[u32], mesh: Mesh) -> Measured
-    requires { ⌜ Readable mesh × (length (now numbers) ≤ 1048576) ⌝ }
+    requires { ⌜ Readable mesh × (length (now numbers) ≤ mostNumbers) ⌝ }
     ensures { λ r. ⌜ r ≡ measureOf (packed (formatOf mesh) false [] (now (numbers .entry))) ⌝ }
 {
     let mut total: usize = 0;

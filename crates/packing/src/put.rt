@@ -5,9 +5,10 @@ ghost use Prim.Native.Nat.{_+_, _*_, _^_, _≤_, _<_};
 ghost use lib.ListN.{length};
 ghost use Rattle.lists.specs.Writing.{Written};
 ghost use Rattle.bits.specs.Bits.{bitsOf};
-ghost use Rattle.packing.specs.Bytes.{bytes};
-ghost use Rattle.packing.specs.Passes.{run, fits, runBits, recordFits, recordBits, recordSize, Readable, Stored, Put};
-use crate::mesh::Mesh;
+ghost use Rattle.records.specs.Inner.Walk.{Readable, recordSize};
+ghost use Rattle.packing.specs.Packed.{bytes};
+ghost use Rattle.packing.specs.Inner.Passes.{runAt, fits, runBits, recordFits, recordBits, Stored, Put};
+use records::shape::Mesh;
 
 // `at` bytes are written; the low `count` bits of `bits` wait.
 pub struct Waiting {
@@ -58,9 +59,9 @@ pub fn put_run(
     from: Waiting,
     out: &mut [u8],
 ) -> Waiting
-    requires { ⌜ (first + count ≤ length (now numbers)) × (w ≤ 32) × (fits w (run (now numbers) first count) ≡ true) ⌝ }
+    requires { ⌜ (first + count ≤ length (now numbers)) × (w ≤ 32) × (fits w (runAt (now numbers) first count) ≡ true) ⌝ }
     requires { ⌜ (from .count < 32) × (8 * (from .at) + from .count + count * w ≤ 8 * length (now out)) ⌝ }
-    ensures { λ r. ⌜ Put from r (now (out .entry)) (now (out .exit)) (runBits w (run (now (numbers .entry)) first count)) ⌝ }
+    ensures { λ r. ⌜ Put from r (now (out .entry)) (now (out .exit)) (runBits w (runAt (now (numbers .entry)) first count)) ⌝ }
 {
     let mut waiting = from;
     let mut k: usize = 0;

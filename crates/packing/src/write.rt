@@ -4,15 +4,16 @@ ghost use mathlib.Core.Bool.{false};
 ghost use mathlib.Core.List.{[]};
 ghost use Prim.Native.Nat.{_≤_};
 ghost use lib.ListN.{length};
+ghost use Rattle.answers.specs.Limits.{mostNumbers};
 ghost use Rattle.answers.specs.Outcome.{Done};
-ghost use Rattle.packing.specs.Accepted.{packed};
+ghost use Rattle.records.specs.Inner.Walk.{formatOf, Readable};
+ghost use Rattle.packing.specs.Packed.{packed};
 ghost use Rattle.packing.specs.Writer.{thin, inBytes, rawWrite};
-ghost use Rattle.packing.specs.Passes.{formatOf, Readable, Roomy};
+ghost use Rattle.packing.specs.Inner.Passes.{Roomy};
+use crate::finding::Found;
+use crate::finding::record_at;
 use crate::measure::Measured;
 use crate::measure::measure;
-use crate::mesh::Found;
-use crate::mesh::Mesh;
-use crate::mesh::record_at;
 use crate::put::Waiting;
 use crate::put::flush;
 use crate::put::put_record;
@@ -20,6 +21,7 @@ use answers::Answer;
 use answers::Refusal;
 use records::layout::widths_are_readable;
 use records::shape::Kind;
+use records::shape::Mesh;
 
 // The second pass, over a list that is accepted and has room.
 pub fn fill(numbers: &[u32], mesh: Mesh, out: &mut [u8]) -> Answer
@@ -45,7 +47,7 @@ pub fn fill(numbers: &[u32], mesh: Mesh, out: &mut [u8]) -> Answer
 
 // RECORD, ROOM, or the bytes.
 pub fn pack(numbers: &[u32], mesh: Mesh, out: &mut [u8]) -> Answer
-    requires { ⌜ Readable mesh × (length (now numbers) ≤ 1048576) ⌝ }
+    requires { ⌜ Readable mesh × (length (now numbers) ≤ mostNumbers) ⌝ }
     ensures { λ r. ⌜ Done (inBytes (packed (formatOf mesh) false [] (now (numbers .entry))) (length (now (out .entry)))) (now (out .entry)) r (now (out .exit)) ⌝ }
 {
     let measured = measure(numbers, mesh);

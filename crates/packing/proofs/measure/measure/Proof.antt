@@ -7,9 +7,9 @@ use mathlib.Core.List.{List, [], _++_}
 use native.Mathlib.Omega.{arith}
 use borrow.Author.Tests.{not-true, not-false}
 use lib.ListN.{length, length-append}
-use Rattle.packing.specs.declared.mesh.Found.the-variants.{Record}
+use Rattle.packing.specs.declared.finding.Found.the-variants.{Record}
 use Rattle.packing.specs.declared.measure.Measured.the-variants.{Bits}
-use Rattle.packing.specs.Passes.{Stands, recordFits, recordBits, measureOf}
+use Rattle.packing.specs.Inner.Passes.{FoundIn, recordFits, recordBits, measureOf}
 use Rattle.packing.proofs.Records.{fits-parts}
 use Rattle.packing.proofs.Passing.{Reached, reached-start, reached-end, reached-flag, reached-unfit, reached-more, length-record}
 use borrow.Author.Needs.{needs}
@@ -39,7 +39,7 @@ unfolding measureOf
 returns c =
     let a = c .before .before .before .before .before .before .args in
     let l = c .before .before .before .before .loop in
-    let e = subst (Stands (a .mesh) (a .numbers .now) (l .i)) (c .enum-told .given .1) (c .before .before .record-at .ensures) in
+    let e = subst (FoundIn (a .mesh) (a .numbers .now) (l .i)) (c .enum-told .given .1) (c .before .before .record-at .ensures) in
     sym (ap measureOf (reached-flag (a .mesh) (a .numbers .now) (l .inv .2 .0) (l .i) (l .inv .2 .1) (c .before .before .before .loop-test .taken) e))
 
 -- a record was found
@@ -50,11 +50,11 @@ module _ (k : tie.After-known-told Inv-loop μ-loop) where
   abbrev comps : ℕ
   comps = k .before .found .given .0 .1 .0
 
-  stands : Stands (k .before .before .before .before .before .before .before .args .mesh) (k .before .before .before .before .before .before .before .args .numbers .now) (k .before .before .before .before .before .loop .i) (Record coords comps)
-  stands = subst (Stands (k .before .before .before .before .before .before .before .args .mesh) (k .before .before .before .before .before .before .before .args .numbers .now) (k .before .before .before .before .before .loop .i)) (k .before .found .given .1) (k .before .before .before .record-at .ensures)
+  found-in : FoundIn (k .before .before .before .before .before .before .before .args .mesh) (k .before .before .before .before .before .before .before .args .numbers .now) (k .before .before .before .before .before .loop .i) (Record coords comps)
+  found-in = subst (FoundIn (k .before .before .before .before .before .before .before .args .mesh) (k .before .before .before .before .before .before .before .args .numbers .now) (k .before .before .before .before .before .loop .i)) (k .before .found .given .1) (k .before .before .before .record-at .ensures)
 
 record-fits-requires : tie.Need-record-fits-requires Inv-loop μ-loop
-record-fits-requires c κs = (c .before .before .before .before .loop-test .taken, stands c .1, stands c .2, c .before .before .before .before .before .before .before .pre .0)
+record-fits-requires c κs = (c .before .before .before .before .before .before .before .pre .0, c .before .before .before .before .loop-test .taken, found-in c .1, found-in c .2)
 
 returns-2 : tie.Need-returns-2 Inv-loop μ-loop
 unfolding measureOf
@@ -64,7 +64,7 @@ returns-2 c =
     let l = k .before .before .before .before .before .loop in
     sym
     (ap measureOf
-    (reached-unfit (a .mesh) (a .numbers .now) (l .inv .2 .0) (l .i) (coords k) (comps k) (l .inv .2 .1) (k .before .before .before .before .loop-test .taken) (stands k)
+    (reached-unfit (a .mesh) (a .numbers .now) (l .inv .2 .0) (l .i) (coords k) (comps k) (l .inv .2 .1) (k .before .before .before .before .loop-test .taken) (found-in k)
     (sym (c .before .record-fits .ensures) ∙ not-true _ (c .if1 .taken))))
 
 -- and it fits
@@ -76,7 +76,7 @@ module _ (e : tie.Else1 Inv-loop μ-loop) where
   there = fits-parts (e .before .before .before .before .before .before .before .before .before .args .mesh) (coords (e .before .before)) (comps (e .before .before)) (e .before .before .before .before .before .before .before .before .before .args .numbers .now) (e .before .before .before .before .before .before .before .loop .i) fit .there
 
 record-size-requires : tie.Need-record-size-requires Inv-loop μ-loop
-record-size-requires c κs = (stands (c .before .before) .1, stands (c .before .before) .2, c .before .before .before .before .before .before .before .before .before .pre .0)
+record-size-requires c κs = (c .before .before .before .before .before .before .before .before .before .pre .0, found-in (c .before .before) .1, found-in (c .before .before) .2)
 
 add-total : tie.Need-add-total Inv-loop μ-loop
 add-total c = omega (arith, there (c .before))
@@ -104,7 +104,7 @@ loop-again c =
       omega (arith, there e, c .record-size .ensures .1),
       (
         l .inv .2 .0 ++ bits,
-        reached-more (a .mesh) (a .numbers .now) (l .inv .2 .0) (l .i) (coords k) (comps k) (l .inv .2 .1) (k .before .before .before .before .loop-test .taken) (stands k) (fit e),
+        reached-more (a .mesh) (a .numbers .now) (l .inv .2 .0) (l .i) (coords k) (comps k) (l .inv .2 .1) (k .before .before .before .before .loop-test .taken) (found-in k) (fit e),
         omega (
           arith,
           l .inv .2 .2,

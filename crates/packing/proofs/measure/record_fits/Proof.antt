@@ -12,7 +12,7 @@ use Rattle.packing.proofs.measure.record_fits.Tie as tie
 module _ (s : tie.Start) where
   short : length (s .args .numbers .now) - s .args .i < 1 + s .args .coords + s .args .comps
       → length (s .args .numbers .now) < s .args .i + (1 + s .args .coords + s .args .comps)
-  short h = omega (arith, s .pre .0)
+  short h = omega (arith, s .pre .1)
 
   there : 1 + s .args .coords + s .args .comps ≤ length (s .args .numbers .now) - s .args .i
       → s .args .i + (1 + s .args .coords + s .args .comps) ≤ length (s .args .numbers .now)

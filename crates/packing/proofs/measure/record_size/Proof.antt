@@ -9,19 +9,19 @@ use Rattle.packing.proofs.measure.record_size.Tie as tie
 
 module _ (s : tie.Start) where
   few-coords : s .args .coords * s .args .mesh .coord ≤ 32 * s .args .coords
-  few-coords = times-few (s .args .coords) (s .args .mesh .coord) (s .pre .2 .coord-few)
+  few-coords = times-few (s .args .coords) (s .args .mesh .coord) (s .pre .0 .coord-few)
 
   few-comps : s .args .comps * s .args .mesh .comp ≤ 32 * s .args .comps
-  few-comps = times-few (s .args .comps) (s .args .mesh .comp) (s .pre .2 .comp-few)
+  few-comps = times-few (s .args .comps) (s .args .mesh .comp) (s .pre .0 .comp-few)
 
-mul-of-coords : tie.Need-mul-of-coords
-mul-of-coords c = omega (arith, few-coords (c .before))
+mul-result : tie.Need-mul-result
+mul-result c = omega (arith, few-coords (c .before))
 
-mul-of-comps : tie.Need-mul-of-comps
-mul-of-comps c = omega (arith, few-comps (c .before .before))
+mul-result-2 : tie.Need-mul-result-2
+mul-result-2 c = omega (arith, few-comps (c .before .before))
 
 add-result : tie.Need-add-result
-add-result c = omega (arith, few-coords (c .before .before .before))
+add-result c = omega (arith, few-coords (c .before .before), few-comps (c .before .before))
 
 add-result-2 : tie.Need-add-result-2
 add-result-2 c = omega (arith, few-coords (c .before .before .before), few-comps (c .before .before .before))
@@ -30,4 +30,4 @@ returns : tie.Need-returns
 returns c = (refl, omega (arith, few-coords (c .before .before .before), few-comps (c .before .before .before)))
 
 pub record-size-spec : {M : Type 1} → statement M
-record-size-spec = tie.close (tie.spec mul-of-coords mul-of-comps add-result add-result-2 returns)
+record-size-spec = tie.close (tie.spec mul-result mul-result-2 add-result add-result-2 returns)

@@ -3,14 +3,14 @@ use Prim.Native.Nat.{_-_, _^_, _≤_}
 use mathlib.Core.Path.{_≡_, _∙_}
 use lib.Dec.{ltb}
 use native.Mathlib.Omega.{arith}
-use Rattle.packing.specs.Passes.{run, fits}
+use Rattle.packing.specs.Inner.Passes.{runAt, fits}
 use Rattle.packing.proofs.Runs.{or-none, or-more}
 use borrow.Author.Needs.{needs}
 use Rattle.packing.proofs.measure.run_fits.Statement.{statement}
 use Rattle.packing.proofs.measure.run_fits.Tie as tie
 
 abbrev Inv-loop : tie.InvT-loop
-Inv-loop numbers first count w all₀ k₀ all k = (k ≤ count) × (ltb all (2 ^ w) ≡ fits w (run numbers first k))
+Inv-loop numbers first count w all₀ k₀ all k = (k ≤ count) × (ltb all (2 ^ w) ≡ fits w (runAt numbers first k))
 
 abbrev μ-loop : tie.MeasureT-loop
 μ-loop numbers first count w all₀ k₀ all k = count - k

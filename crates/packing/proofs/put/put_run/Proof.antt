@@ -4,7 +4,7 @@ use mathlib.Core.Path.{_≡_}
 use native.Mathlib.Nat.{mul-le-mul-right}
 use native.Mathlib.Omega.{arith}
 use Rattle.lists.specs.Lists.{flat}
-use Rattle.packing.specs.Passes.{run, runBits, Put}
+use Rattle.packing.specs.Inner.Passes.{runAt, runBits, Put}
 use Rattle.packing.proofs.Runs.{run-fits-at, run-bits-more, length-run-bits}
 use Rattle.packing.proofs.Putting.{put-none, put-then, put-place, put-length}
 use borrow.Author.Needs.{needs}
@@ -13,7 +13,7 @@ use Rattle.packing.proofs.put.put_run.Tie as tie
 
 abbrev Inv-loop : tie.InvT-loop
 Inv-loop numbers first count w out₀ waiting₀ k₀ out waiting k =
-    (k ≤ count) × Put waiting₀ waiting out₀ out (runBits w (run numbers first k))
+    (k ≤ count) × Put waiting₀ waiting out₀ out (runBits w (runAt numbers first k))
 
 abbrev μ-loop : tie.MeasureT-loop
 μ-loop numbers first count w out₀ waiting₀ k₀ out waiting k = count - k

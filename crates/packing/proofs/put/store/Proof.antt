@@ -5,7 +5,7 @@ use Rattle.lists.proofs.Writing.{written-length}
 use Prim.Native.Nat.{_+_, _-_, _*_, _/_, _^_, _≤_}
 use mathlib.Core.Path.{_≡_}
 use native.Mathlib.Omega.{arith}
-use Rattle.packing.specs.Passes.{Stored}
+use Rattle.packing.specs.Inner.Passes.{Stored}
 use Rattle.packing.proofs.Putting.{stored-none, stored-more}
 use borrow.Author.Needs.{needs}
 use Rattle.packing.proofs.put.store.Statement.{statement}

@@ -7,9 +7,10 @@ use mathlib.Core.List.{List, [], _++_}
 use mathlib.Core.Option.{Option, some}
 use native.Mathlib.Omega.{arith}
 use lib.ListN.{length}
-use Rattle.packing.specs.declared.mesh.Found.the-variants.{Record}
-use Rattle.packing.specs.Accepted.{packed}
-use Rattle.packing.specs.Passes.{formatOf, Stands, recordFits, recordBits, Roomy, Put}
+use Rattle.packing.specs.declared.finding.Found.the-variants.{Record}
+use Rattle.packing.specs.Packed.{packed}
+use Rattle.records.specs.Inner.Walk.{formatOf}
+use Rattle.packing.specs.Inner.Passes.{FoundIn, recordFits, recordBits, Roomy, Put}
 use Rattle.packing.proofs.Records.{fits-parts}
 use Rattle.packing.proofs.Passing.{Reached, reached-start, reached-end, reached-flag, reached-more, reached-room, length-record}
 use Rattle.packing.proofs.Putting.{put-none, put-then, put-place, put-length}
@@ -45,7 +46,7 @@ returns c =
     let s = c .before .before .before .before .before .before .before in
     let a = s .args in
     let l = c .before .before .before .before .loop in
-    let e = subst (Stands (a .mesh) (a .numbers .now) (l .i)) (c .enum-told .given .1) (c .before .before .record-at .ensures) in
+    let e = subst (FoundIn (a .mesh) (a .numbers .now) (l .i)) (c .enum-told .given .1) (c .before .before .record-at .ensures) in
     absurd
     (subst (λ (o : Option (List ℕ)). Roomy o (length (a .out .now)))
     (reached-flag (a .mesh) (a .numbers .now) (l .inv .1 .0) (l .i) (l .inv .1 .1) (c .before .before .before .loop-test .taken) e) (s .pre .1))
@@ -58,15 +59,15 @@ module _ (k : tie.After-known-told Inv-loop μ-loop) where
   abbrev comps : ℕ
   comps = k .before .found .given .0 .1 .0
 
-  stands : Stands (k .before .before .before .before .before .before .before .before .args .mesh) (k .before .before .before .before .before .before .before .before .args .numbers .now) (k .before .before .before .before .before .loop .i) (Record coords comps)
-  stands = subst (Stands (k .before .before .before .before .before .before .before .before .args .mesh) (k .before .before .before .before .before .before .before .before .args .numbers .now) (k .before .before .before .before .before .loop .i)) (k .before .found .given .1) (k .before .before .before .record-at .ensures)
+  found-in : FoundIn (k .before .before .before .before .before .before .before .before .args .mesh) (k .before .before .before .before .before .before .before .before .args .numbers .now) (k .before .before .before .before .before .loop .i) (Record coords comps)
+  found-in = subst (FoundIn (k .before .before .before .before .before .before .before .before .args .mesh) (k .before .before .before .before .before .before .before .before .args .numbers .now) (k .before .before .before .before .before .loop .i)) (k .before .found .given .1) (k .before .before .before .record-at .ensures)
 
   fit : (recordFits (k .before .before .before .before .before .before .before .before .args .mesh) coords comps (k .before .before .before .before .before .before .before .before .args .numbers .now) (k .before .before .before .before .before .loop .i) ≡ true)
       × (length (k .before .before .before .before .before .loop .inv .1 .0) + length (recordBits (k .before .before .before .before .before .before .before .before .args .mesh) coords comps (k .before .before .before .before .before .before .before .before .args .numbers .now) (k .before .before .before .before .before .loop .i)) ≤ 8 * length (k .before .before .before .before .before .before .before .before .args .out .now))
   fit =
       let a = k .before .before .before .before .before .before .before .before .args in
       let l = k .before .before .before .before .before .loop in
-      reached-room (a .mesh) (a .numbers .now) (l .inv .1 .0) (l .i) coords comps (l .inv .1 .1) (k .before .before .before .before .loop-test .taken) stands (length (a .out .now)) (k .before .before .before .before .before .before .before .before .pre .1)
+      reached-room (a .mesh) (a .numbers .now) (l .inv .1 .0) (l .i) coords comps (l .inv .1 .1) (k .before .before .before .before .loop-test .taken) found-in (length (a .out .now)) (k .before .before .before .before .before .before .before .before .pre .1)
 
   there : k .before .before .before .before .before .loop .i + (1 + coords + comps) ≤ length (k .before .before .before .before .before .before .before .before .args .numbers .now)
   there = fits-parts (k .before .before .before .before .before .before .before .before .args .mesh) coords comps (k .before .before .before .before .before .before .before .before .args .numbers .now) (k .before .before .before .before .before .loop .i) (fit .0) .there
@@ -102,7 +103,7 @@ loop-again c =
       there k,
       (
         l .inv .1 .0 ++ recordBits (a .mesh) (coords k) (comps k) (a .numbers .now) (l .i),
-        reached-more (a .mesh) (a .numbers .now) (l .inv .1 .0) (l .i) (coords k) (comps k) (l .inv .1 .1) (k .before .before .before .before .loop-test .taken) (stands k) (fit k .0),
+        reached-more (a .mesh) (a .numbers .now) (l .inv .1 .0) (l .i) (coords k) (comps k) (l .inv .1 .1) (k .before .before .before .before .loop-test .taken) (found-in k) (fit k .0),
         put-then (l .inv .1 .2) (c .before .before .put-record .ensures),
       ),
     )

@@ -7,8 +7,8 @@ use mathlib.Core.List.{List, []}
 use mathlib.Core.Option.{some}
 use native.Mathlib.Omega.{arith}
 use lib.ListN.{length}
-use Rattle.packing.specs.Accepted.{packed}
-use Rattle.packing.specs.Passes.{formatOf}
+use Rattle.packing.specs.Packed.{packed}
+use Rattle.records.specs.Inner.Walk.{formatOf}
 use Rattle.packing.proofs.Accepting.{accepted-bits}
 use Rattle.packing.proofs.Finishing.{measured-unfit, measured-bits, not-accepted, without-room, has-room}
 use borrow.Author.Needs.{needs}

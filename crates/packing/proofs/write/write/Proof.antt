@@ -4,8 +4,8 @@ use mathlib.Core.Path.{sym, _∙_}
 use borrow.Author.Tests.{not-false, lt-ltb, le-ltb}
 use Rattle.answers.proofs.Outcomes.{was-refused}
 use Rattle.packing.specs.Writer.{rawWrite}
-use Rattle.packing.specs.Passes.{Readable}
-use Rattle.records.proofs.Layouts.{widths-readable}
+use Rattle.records.specs.Inner.Walk.{Readable}
+use Rattle.records.proofs.Walks.{past-tests}
 use borrow.Author.Needs.{needs}
 use Rattle.packing.proofs.write.write.Statement.{statement}
 use Rattle.packing.proofs.write.write.Tie as tie
@@ -30,8 +30,7 @@ readable : (c : tie.Else2)
     → Readable (record { kind = c .before .before .before .before .before .args .kind; first = c .before .before .before .before .before .args .first; coord = c .before .before .before .before .before .args .coord; comp = c .before .before .before .before .before .args .comp; n = c .before .before .before .before .before .args .n })
 readable c =
     let a = c .before .before .before .before .before .args in
-    let w = widths-readable (a .first) (a .coord) (a .comp) (sym (c .before .before .widths-are-readable .ensures) ∙ not-false _ (c .before .if1 .left)) in
-    record { first-few = w .of-first .few-bits; coord-few = w .of-coord .few-bits; comp-few = w .of-comp .few-bits; n-few = c .if2 .left }
+    past-tests (a .kind) (a .first) (a .coord) (a .comp) (a .n) (sym (c .before .before .widths-are-readable .ensures) ∙ not-false _ (c .before .if1 .left)) (c .if2 .left)
 
 is-thin-requires : tie.Need-is-thin-requires
 is-thin-requires c κs = readable (c .before)

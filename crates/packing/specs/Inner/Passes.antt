@@ -5,14 +5,14 @@ use mathlib.Core.List.{List, [], _∷_, _++_}
 use mathlib.Core.Option.{Option, none, some}
 use Prim.Native.Nat.{ℕ, _+_, _*_, _^_, _≤_, _<_}
 use lib.Dec.{ltb, leb}
-use lib.ListN.{length, take, drop, getD, replicate}
+use lib.ListN.{length, take, drop, getD}
 use Rattle.lists.specs.Lists.{AllBelow, flat}
 use Rattle.lists.specs.Writing.{Written}
 use Rattle.bits.specs.Bits.{bitsOf, stream}
-use Rattle.records.specs.Format.{Format, format}
-use Rattle.packing.specs.declared.mesh.Mesh.{Mesh}
-use Rattle.packing.specs.declared.mesh.Found.{Found}
-use Rattle.packing.specs.declared.mesh.Found.the-variants.{Record, End}
+use Rattle.records.specs.declared.shape.Mesh.{Mesh}
+use Rattle.records.specs.Inner.Walk.{formatOf, widthsAfter}
+use Rattle.packing.specs.declared.finding.Found.{Found}
+use Rattle.packing.specs.declared.finding.Found.the-variants.{Record, End}
 use Rattle.packing.specs.declared.put.Waiting.{Waiting}
 use Rattle.packing.specs.declared.measure.Measured.{Measured}
 use Rattle.packing.specs.declared.measure.Measured.the-variants.{Bits, Unfit}
@@ -20,8 +20,8 @@ use Rattle.packing.specs.declared.measure.Measured.the-variants.{Bits, U
 -- ---- a list, run by run
 
 -- count numbers from an index on
-abbrev pub run : List ℕ → ℕ → ℕ → List ℕ
-run xs from count = take count (drop from xs)
+abbrev pub runAt : List ℕ → ℕ → ℕ → List ℕ
+runAt xs from count = take count (drop from xs)
 
 -- every number fits w bits
 unfoldable pub fits : ℕ → List ℕ → Bool
@@ -34,41 +34,27 @@ runBits w xs = flat (bitsOf w) xs
 
 -- ---- a record: its first number, so many coordinates and components
 
--- the widths of a mesh, and its components to a colour, are within the limits
-pub record Readable (m : Mesh) : Type 0 where
-  pub first-few : m .first ≤ 32
-  pub coord-few : m .coord ≤ 32
-  pub comp-few : m .comp ≤ 32
-  pub n-few : m .n ≤ 32
-
-abbrev pub formatOf : Mesh → Format
-formatOf m = format (m .kind) (m .first) (m .coord) (m .comp) (m .n)
-
 -- what follows the number at index i, at which a record begins
-abbrev pub Stands : Mesh → List ℕ → ℕ → Found → Type 0
-Stands m xs i (Record coords comps) =
-    (formatOf m .more (ltb 0 i) (getD xs i 0) ≡ some (replicate coords (m .coord) ++ replicate comps (m .comp)))
+abbrev pub FoundIn : Mesh → List ℕ → ℕ → Found → Type 0
+FoundIn m xs i (Record coords comps) =
+    (formatOf m .more (ltb 0 i) (getD xs i 0) ≡ some (widthsAfter m coords comps))
     × (coords ≤ 32)
     × (comps ≤ 128)
-Stands m xs i End = formatOf m .more (ltb 0 i) (getD xs i 0) ≡ none
+FoundIn m xs i End = formatOf m .more (ltb 0 i) (getD xs i 0) ≡ none
 
 -- the record at index i is there, and each number of it fits
 abbrev pub recordFits : Mesh → ℕ → ℕ → List ℕ → ℕ → Bool
 recordFits m coords comps xs i =
     leb (i + (1 + coords + comps)) (length xs)
     && (ltb (getD xs i 0) (2 ^ (m .first))
-    && (fits (m .coord) (run xs (i + 1) coords)
-    && fits (m .comp) (run xs (i + 1 + coords) comps)))
+    && (fits (m .coord) (runAt xs (i + 1) coords)
+    && fits (m .comp) (runAt xs (i + 1 + coords) comps)))
 
 abbrev pub recordBits : Mesh → ℕ → ℕ → List ℕ → ℕ → List ℕ
 recordBits m coords comps xs i =
     bitsOf (m .first) (getD xs i 0)
-    ++ (runBits (m .coord) (run xs (i + 1) coords)
-    ++ runBits (m .comp) (run xs (i + 1 + coords) comps))
-
--- how many bits a record takes
-abbrev pub recordSize : Mesh → ℕ → ℕ → ℕ
-recordSize m coords comps = m .first + coords * m .coord + comps * m .comp
+    ++ (runBits (m .coord) (runAt xs (i + 1) coords)
+    ++ runBits (m .comp) (runAt xs (i + 1 + coords) comps))
 
 -- ---- the two passes
 
