@@ -11,7 +11,7 @@ use Rattle.lists.proofs.Pieces.{length-joined, joined-same, flat-joined}
 use Rattle.rules.specs.Triangles.{Tri}
 use Rattle.rules.specs.Lattice.{cell, lattice}
 use Rattle.rules.specs.Clauses.{upper, lower, turned}
-use Rattle.rules.specs.Properties.{Within}
+use Rattle.rules.proofs.Properties.{CornersBelow}
 use Rattle.rules.proofs.Lists.{all-joined, joined-begins, div-grows}
 
 -- two for each cell; k vertices to a row
@@ -36,11 +36,11 @@ lattice-none count k h = empty (lattice count k) (lattice-count count k ∙ zero
     empty (t ∷ l) e = absurd (omega arith)
 
 -- every vertex is among those given
-pub lattice-within : (count k : ℕ) → All (Within count) (lattice count k)
+pub lattice-within : (count k : ℕ) → All (CornersBelow count) (lattice count k)
 unfolding lattice
 lattice-within count k =
-    all-joined (Within count) (count / k - 1) _
-    (λ r h. all-joined (Within count) (k - 1) _
+    all-joined (CornersBelow count) (count / k - 1) _
+    (λ r h. all-joined (CornersBelow count) (k - 1) _
     (λ c l.
     let s : r + 2 ≤ count / k = omega arith in
     let m = mul-le-mul-right k s in

@@ -1,3 +1,4 @@
+pub mod Properties
 pub mod Lists
 pub mod Triangles
 pub mod TwoRules
@@ -9,4 +10,3 @@ pub mod Meshes
 pub mod Walks
 pub mod Rows
 pub mod RawReading
-pub mod Examples

@@ -13,14 +13,20 @@ use lib.Seq.{drop-append-le}
 use Rattle.lists.specs.Lists.{part, All, Begins}
 use Rattle.lists.proofs.Pieces.{joined-same, length-part, length-singles, getD-singles}
 use Rattle.lists.proofs.Members.{begins-nothing, begins-after}
-use Rattle.rules.specs.Triangles.{Rule}
-use Rattle.rules.specs.Patches.{Patch, patch, Places, Table, sides, Piece, onto, patchRow}
-use Rattle.rules.specs.Meshes.{flags, vertex4, vertex5, type4Mesh, type5Mesh, pointsAfter, coloursAfter, sizeAfter, groups, piece, piecesTo, pieces, patches, patchMesh}
-use Rattle.rules.specs.Properties.{Sized, Made, Fits}
+use Rattle.rules.specs.Triangles.{Rule, triangles}
+use Rattle.rules.specs.Patches.{Patch, patch, Places, Table, Piece, onto, patchRow}
+use Rattle.records.specs.Format.{pointsAfter, coloursAfter}
+use Rattle.rules.specs.Meshes.{Source, Finished, flags, vertex4, vertex5, vertexRow, type4Mesh, type5Mesh, sizeAfter, groups, piece, piecesTo, pieces, patches, patchMesh}
+use Rattle.rules.specs.Inner.Sides.{Sized, Fits}
 use Rattle.rules.proofs.Lists.{div-grows, group-fits, all-joined, joined-begins, begins-length, begins-getD, begins-part, flat-begins}
 use Rattle.rules.proofs.Triangles.{triangles-begins, triangles-within, corners-begins}
 use Rattle.rules.proofs.Lattice.{lattice-begins, lattice-within}
-use Rattle.rules.proofs.Patches.{mesh-begins, mesh-has, onto-sized, onto-made}
+use Rattle.rules.proofs.Patches.{Made, mesh-begins, mesh-has, onto-sized, onto-made}
+
+-- a mesh goes on: no fewer triangles or patches, and the numbers of the one begin those of the other
+pub record MeshBegins {B : Type 0} (mesh more : Finished B) : Type 0 where
+  pub count-begins : mesh .count ≤ more .count
+  pub numbers-begin : Begins (mesh .numbers) (more .numbers)
 
 -- ---- Types 4 and 5
 
@@ -48,23 +54,30 @@ module _ {A : Type 0} (d : A) (flagOf : A → ℕ) (n : ℕ) where
     unfolding vertex5
     vertex5-begins i l = sym (begins-part d (i * (n + 2)) (n + 2) b (group-fits i (n + 2) (length xs) l))
 
-module _ {A B : Type 0} (d : A) (row : List A → List B) (n : ℕ) {xs ys : List A} (b : Begins xs ys) where
+module _ {A B : Type 0} (S : Source A B) (n : ℕ) {xs ys : List A} (b : Begins xs ys) where
   -- a cut list gives a beginning of the mesh
-  pub type4-begins : (r : Rule) (flagOf : A → ℕ) → Begins (type4Mesh d row r flagOf n xs) (type4Mesh d row r flagOf n ys)
+  pub type4-begins : (r : Rule) → MeshBegins (type4Mesh (triangles r) S n xs) (type4Mesh (triangles r) S n ys)
   unfolding type4Mesh
-  type4-begins r flagOf =
-      corners-begins (length xs / (n + 3)) _ _
-      (rw (length-flags d flagOf n xs) at (triangles-within r (flags d flagOf n xs)))
-      (λ i l. ap row (vertex4-begins d flagOf n b i l))
-      (triangles-begins r (flags-begins d flagOf n b))
+  type4-begins r =
+      let on = triangles-begins r (flags-begins (S .missing) (S .flag) n b) in
+      record {
+        count-begins = begins-length on;
+        numbers-begin =
+            corners-begins (length xs / (n + 3)) _ _
+            (rw (length-flags (S .missing) (S .flag) n xs) at (triangles-within r (flags (S .missing) (S .flag) n xs)))
+            (λ i l. ap (vertexRow S) (vertex4-begins (S .missing) (S .flag) n b i l)) on;
+      }
 
-  pub type5-begins : (rowLength : ℕ) → Begins (type5Mesh d row n rowLength xs) (type5Mesh d row n rowLength ys)
+  pub type5-begins : (rowLength : ℕ) → MeshBegins (type5Mesh rowLength S n xs) (type5Mesh rowLength S n ys)
   unfolding type5Mesh
   type5-begins rowLength =
-      corners-begins (length xs / (n + 2)) _ _
-      (lattice-within (length xs / (n + 2)) rowLength)
-      (λ i l. ap row (vertex5-begins d (λ (x : A). 0) n b i l))
-      (lattice-begins (length xs / (n + 2)) (length ys / (n + 2)) rowLength (div-grows (length xs) (length ys) (n + 2) (begins-length b)))
+      let on = lattice-begins (length xs / (n + 2)) (length ys / (n + 2)) rowLength (div-grows (length xs) (length ys) (n + 2) (begins-length b)) in
+      record {
+        count-begins = begins-length on;
+        numbers-begin =
+            corners-begins (length xs / (n + 2)) _ _ (lattice-within (length xs / (n + 2)) rowLength)
+            (λ i l. ap (vertexRow S) (vertex5-begins (S .missing) (S .flag) n b i l)) on;
+      }
 
 -- ---- Types 6 and 7: the records of a list
 
@@ -176,17 +189,17 @@ module _ {A : Type 0} (d : A) (flagOf : A → ℕ) (own n : ℕ) where
   onto-numbered b s o z f w = (onto-sized own b s o (z .0) f (w .0), onto-made _ _ b s o (z .1) (w .1))
 
   -- a record has the points and colours that its flag asks for
-  abbrev pub Whole : Piece (List A) (List A) → Type 0
-  Whole q = Numbered (pointsAfter own (q .flag)) (coloursAfter (q .flag)) n (q .body)
+  abbrev pub PieceWhole : Piece (List A) (List A) → Type 0
+  PieceWhole q = Numbered (pointsAfter own (q .flag)) (coloursAfter (q .flag)) n (q .body)
 
-  to-whole : (k : ℕ) (xs : List A) → All Whole (piecesTo d flagOf own n k xs)
+  to-whole : (k : ℕ) (xs : List A) → All PieceWhole (piecesTo d flagOf own n k xs)
   unfolding piecesTo
   to-whole zero xs = tt
   to-whole (suc k) [] = tt
   to-whole (suc k) (x ∷ xs) = go (leb (sizeAfter own n (flagOf x)) (length xs)) (to-whole k (drop (sizeAfter own n (flagOf x)) xs))
     where
-      go : (t : Bool) → All Whole (piecesTo d flagOf own n k (drop (sizeAfter own n (flagOf x)) xs))
-          → All Whole (cond t (piece d own n (flagOf x) xs ∷ piecesTo d flagOf own n k (drop (sizeAfter own n (flagOf x)) xs)) [])
+      go : (t : Bool) → All PieceWhole (piecesTo d flagOf own n k (drop (sizeAfter own n (flagOf x)) xs))
+          → All PieceWhole (cond t (piece d own n (flagOf x) xs ∷ piecesTo d flagOf own n k (drop (sizeAfter own n (flagOf x)) xs)) [])
       go true ih = (piece-numbered (flagOf x) xs, ih)
       go false ih = tt
 
@@ -204,13 +217,9 @@ module _ {A : Type 0} (d : A) (flagOf : A → ℕ) (own n : ℕ) where
     patches-begins b = mesh-begins T none (pieces-begins d own n flagOf b)
 
 -- a cut list gives a beginning of the mesh, by either table
-module _ {A B : Type 0} (d : A) (point colour : List A → List B) (flagOf : A → ℕ) (n : ℕ) {xs ys : List A} (b : Begins xs ys) where
-  patchMesh-begins : (T : Table) (own : ℕ) → Begins (patchMesh d point colour T flagOf own n xs) (patchMesh d point colour T flagOf own n ys)
-  unfolding patchMesh
-  patchMesh-begins T own = flat-begins (patchRow point colour) (patches-begins d flagOf own n T b)
-
-  pub type6-begins : Begins (patchMesh d point colour sides flagOf 8 n xs) (patchMesh d point colour sides flagOf 8 n ys)
-  type6-begins = patchMesh-begins sides 8
-
-  pub type7-begins : (T : Table) → Begins (patchMesh d point colour T flagOf 12 n xs) (patchMesh d point colour T flagOf 12 n ys)
-  type7-begins T = patchMesh-begins T 12
+pub patchMesh-begins : {A B : Type 0} (S : Source A B) (n : ℕ) {xs ys : List A} → Begins xs ys → (T : Table) (own : ℕ)
+    → MeshBegins (patchMesh T own S n xs) (patchMesh T own S n ys)
+unfolding patchMesh
+patchMesh-begins S n b T own =
+    let on = patches-begins (S .missing) (S .flag) own n T b in
+    record { count-begins = begins-length on; numbers-begin = flat-begins (patchRow (S .point) (S .colour)) on }

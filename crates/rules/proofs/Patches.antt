@@ -7,8 +7,8 @@ use native.Mathlib.Omega.{arith}
 use lib.ListN.{length, getElem?, length-append}
 use Rattle.lists.specs.Lists.{flat, All, Begins}
 use Rattle.lists.proofs.Members.{all-append, begins-nothing, begins-after}
-use Rattle.rules.specs.Patches.{Patch, Places, Table, sides, listSides, Piece, at, onto, patchOf, mesh, patchRow}
-use Rattle.rules.specs.Properties.{each, eachPiece, Sized, Made, Fits}
+use Rattle.rules.specs.Patches.{Patch, patch, Places, Table, sides, listSides, Piece, at, onto, patchOf, mesh, patchRow}
+use Rattle.rules.specs.Inner.Sides.{Sized, Fits}
 use Rattle.rules.proofs.Lists.{map-at, length-at, all-at}
 
 -- ---- record by record
@@ -39,6 +39,13 @@ module _ {P C : Type 0} (T : Table) where
   mesh-begins b {qs} {rs} p = rw (p .is) (mesh-append b qs (p .rest))
 
 -- ---- decoding
+
+-- points and colours, each by itself, as decoding does it
+abbrev pub each : {P C Q D : Type 0} → (P → Q) → (C → D) → Patch P C → Patch Q D
+each f g p = patch (map f (p .points)) (map g (p .colours))
+
+abbrev pub eachPiece : {P C Q D : Type 0} → (P → Q) → (C → D) → Piece P C → Piece Q D
+eachPiece f g q = record { flag = q .flag; body = each f g (q .body) }
 
 module _ {P C Q D : Type 0} (f : P → Q) (g : C → D) (T : Table) where
   onto-each : (b : Patch P C) (s : Places) (o : Patch P C) → onto (each f g b) s (each f g o) ≡ each f g (onto b s o)
@@ -75,7 +82,7 @@ module _ {P C Q D : Type 0} (f : P → Q) (g : C → D) (T : Table) where
           ∙ ap (map (each f g)) (sym (mesh-more T b q qs p e))
 
 -- what is written of decoded points and colours
-flat-map : {A B D : Type 0} (h : B → List D) (f : A → B) (l : List A) → flat h (map f l) ≡ flat (λ (x : A). h (f x)) l
+pub flat-map : {A B D : Type 0} (h : B → List D) (f : A → B) (l : List A) → flat h (map f l) ≡ flat (λ (x : A). h (f x)) l
 unfolding flat
 flat-map h f [] = refl
 flat-map h f (x ∷ l) = rw (flat-map h f l)
@@ -126,6 +133,10 @@ module _ {P C : Type 0} (T : Table) (S : Places → Type 0) (W : ℕ → Patch P
           rw (mesh-more T b q qs p e) (y, ih p y)
 
 module _ {P C : Type 0} where
+  -- each point and each colour is of the kind
+  abbrev pub Made : (P → Type 0) → (C → Type 0) → Patch P C → Type 0
+  Made Point Colour p = All Point (p .points) × All Colour (p .colours)
+
   -- all points, where a joined patch has so many of its own, and four colours
   pub onto-sized : (own : ℕ) (b : Patch P C) (s : Places) (o : Patch P C) → Sized (4 + own) 4 b → Fits (4 + own) s → Sized own 2 o
       → Sized (4 + own) 4 (onto b s o)

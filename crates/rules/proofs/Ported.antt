@@ -7,14 +7,14 @@ use native.Mathlib.Omega.{arith}
 use borrow.Author.Tests.{le-leb}
 use lib.ListN.{length, getD, length-append}
 use lib.Seq.{getD-append-add}
-use Rattle.rules.specs.Triangles.{Tri, tri, start, after, triangleBefore, lastThree, run, triangles}
+use Rattle.rules.specs.Triangles.{Tri, tri, start, after, triangleBefore, lastThree, trianglesFrom, triangles}
 use Rattle.rules.proofs.Triangles.{new-triangle}
 use Rattle.rules.specs.Ported.{binaryReader, fromEnd, ifThree, listBuilder}
 
 -- ---- parse_type4_mesh
 
-binary-after : (a b c i : ℕ) (fs : List ℕ) → binaryReader (some (tri a b c)) i fs ≡ run triangleBefore (after a b c) i fs
-unfolding binaryReader run
+binary-after : (a b c i : ℕ) (fs : List ℕ) → binaryReader (some (tri a b c)) i fs ≡ trianglesFrom triangleBefore (after a b c) i fs
+unfolding binaryReader trianglesFrom
 binary-after a b c i [] = refl
 binary-after a b c i (zero ∷ []) = refl
 binary-after a b c i (zero ∷ g ∷ []) = refl
@@ -24,8 +24,8 @@ binary-after a b c i (suc zero ∷ fs) = ap (λ (l : List Tri). tri b c i ∷ l)
 binary-after a b c i (suc (suc zero) ∷ fs) = ap (λ (l : List Tri). tri a c i ∷ l) (binary-after a c i (i + 1) fs)
 binary-after a b c i (suc (suc (suc f)) ∷ fs) = binary-after a b c (i + 1) fs
 
-binary-start : (i : ℕ) (fs : List ℕ) → binaryReader none i fs ≡ run triangleBefore start i fs
-unfolding binaryReader run
+binary-start : (i : ℕ) (fs : List ℕ) → binaryReader none i fs ≡ trianglesFrom triangleBefore start i fs
+unfolding binaryReader trianglesFrom
 binary-start i [] = refl
 binary-start i (zero ∷ []) = refl
 binary-start i (zero ∷ g ∷ []) = refl
@@ -57,17 +57,17 @@ module _ (us : List ℕ) (a b c : ℕ) where
   unfolding listBuilder
   list-one i fs =
       rw (le-leb 2 (length (us ++ (a ∷ b ∷ c ∷ []))) (omega (arith, kept-length)))
-      (simp (from-end 3 (omega arith), from-end 2 (omega arith), from-end 1 (omega arith), kept-push i))
+      (simp (from-end 2 (omega arith), from-end 1 (omega arith), kept-push i))
 
   list-two : (i : ℕ) (fs : List ℕ)
       → listBuilder (us ++ (a ∷ b ∷ c ∷ [])) i (2 ∷ fs) ≡ tri a c i ∷ listBuilder ((us ++ (a ∷ [])) ++ (b ∷ c ∷ i ∷ [])) (i + 1) fs
   unfolding listBuilder
   list-two i fs =
       rw (le-leb 3 (length (us ++ (a ∷ b ∷ c ∷ []))) (omega (arith, kept-length)))
-      (simp (from-end 3 (omega arith), from-end 2 (omega arith), from-end 1 (omega arith), kept-push i))
+      (simp (from-end 3 (omega arith), from-end 1 (omega arith), kept-push i))
 
-list-after : (us : List ℕ) (a b c i : ℕ) (fs : List ℕ) → listBuilder (us ++ (a ∷ b ∷ c ∷ [])) i fs ≡ run lastThree (after a b c) i fs
-unfolding listBuilder ifThree run
+list-after : (us : List ℕ) (a b c i : ℕ) (fs : List ℕ) → listBuilder (us ++ (a ∷ b ∷ c ∷ [])) i fs ≡ trianglesFrom lastThree (after a b c) i fs
+unfolding listBuilder ifThree trianglesFrom
 list-after us a b c i [] = refl
 list-after us a b c i (zero ∷ []) = refl
 list-after us a b c i (zero ∷ g ∷ []) = refl
@@ -79,8 +79,8 @@ list-after us a b c i (suc (suc zero) ∷ fs) =
     list-two us a b c i fs ∙ ap (λ (l : List Tri). tri a c i ∷ l) (list-after (us ++ (a ∷ [])) b c i (i + 1) fs)
 list-after us a b c i (suc (suc (suc f)) ∷ fs) = list-after us a b c (i + 1) fs
 
-list-start : (i : ℕ) (fs : List ℕ) → listBuilder [] i fs ≡ run lastThree start i fs
-unfolding listBuilder ifThree run
+list-start : (i : ℕ) (fs : List ℕ) → listBuilder [] i fs ≡ trianglesFrom lastThree start i fs
+unfolding listBuilder ifThree trianglesFrom
 list-start i [] = refl
 list-start i (zero ∷ []) = refl
 list-start i (zero ∷ g ∷ []) = refl

@@ -1,26 +1,26 @@
 -- The rules over the raw reading of bytes: each of its Type 6 and 7 records gives a patch, and cut bytes give a beginning of the mesh. Assumes
 -- nothing.
 use mathlib.Core.Path.{_≡_, refl, ap, ap₂, _∙_}
-use mathlib.Core.Bool.{Bool, true, false, _&&_, cond}
+use mathlib.Core.Bool.{Bool, true, false, _&&_, _||_, cond}
 use mathlib.Core.List.{List, _∷_, _++_}
 use mathlib.Core.Option.{Option, none, some, Option·none-ne-some, Option·some-injective}
 use Prim.Native.Nat.{ℕ, zero, suc, _+_, _*_}
 use native.Mathlib.Omega.{arith}
 use borrow.Author.Tests.{lt-leb}
-use lib.Dec.{leb, eqb·suc-zero}
+use lib.Dec.{leb, eqb, eqb·suc-zero}
 use lib.ListN.{length, take, drop, replicate, length-append, length-replicate}
 use lib.Seq.{drop-at}
 use Rattle.lists.specs.Lists.{Begins}
 use Rattle.bits.specs.Bits.{number, stream}
 use Rattle.records.specs.declared.shape.Kind.the-variants.{Six, Seven}
 use Rattle.records.specs.declared.shape.Shape.the-variants.{Follows, Ends}
-use Rattle.records.specs.Format.{sum, numbers, Format, patchShape, widthsOf, format, next, readings, rawReading}
+use Rattle.records.specs.Format.{sum, numbers, Format, pointsAfter, coloursAfter, patchShape, widthsOf, format, next, readings, rawReading}
 use Rattle.records.proofs.Readings.{length-numbers, next-some, readings-none, readings-some, reading-begins}
-use Rattle.rules.specs.Triangles.{Rule}
-use Rattle.rules.specs.Patches.{Patch, Piece, sides, patchOf, mesh}
-use Rattle.rules.specs.Meshes.{sizeAfter, piece, pieces, patches, type4Mesh, type5Mesh, patchMesh}
+use Rattle.rules.specs.Triangles.{Rule, triangles}
+use Rattle.rules.specs.Patches.{Patch, Piece, Table, sides, patchOf, mesh}
+use Rattle.rules.specs.Meshes.{Source, sizeAfter, piece, pieces, patches, type4Mesh, type5Mesh, patchMesh}
 use Rattle.rules.proofs.Patches.{mesh-more}
-use Rattle.rules.proofs.Meshes.{pieces-none, pieces-more, piece-begins, type4-begins, type5-begins, type6-begins, type7-begins}
+use Rattle.rules.proofs.Meshes.{MeshBegins, pieces-none, pieces-more, piece-begins, type4-begins, type5-begins, patchMesh-begins}
 
 -- ---- each record gives a patch
 
@@ -37,15 +37,15 @@ module _ (own first coord comp n : ℕ) where
   F = record { first = first; more = λ started x. widthsOf coord comp n (patchShape own started x) }
 
   length-widths : (coords colours : ℕ) → length (replicate coords coord ++ replicate (colours * n) comp) ≡ coords + colours * n
-  length-widths coords colours = rw (length-append, length-replicate, length-replicate)
+  length-widths coords colours =
+      rw (length-append, length-replicate coords coord, length-replicate (colours * n) comp)
 
   -- a record has as many numbers as its flag asks for
   more-size : (started : Bool) (f : ℕ) (ws : List ℕ) → F .more started f ≡ some ws → length ws ≡ sizeAfter own n f
-  more-size started zero ws e = rw (← Option·some-injective _ ws e) (length-widths (2 * (4 + own)) 4)
-  more-size started (suc f) ws e = go (started && leb (suc f) 3) (rw (eqb·suc-zero f) at e)
+  more-size started f ws e = go (eqb f 0 || (started && leb f 3)) e
     where
-      go : (t : Bool) → widthsOf coord comp n (cond t (Follows (2 * own) 2) Ends) ≡ some ws → length ws ≡ 2 * own + 2 * n
-      go true e = rw (← Option·some-injective _ ws e) (length-widths (2 * own) 2)
+      go : (t : Bool) → widthsOf coord comp n (cond t (Follows (2 * pointsAfter own f) (coloursAfter f)) Ends) ≡ some ws → length ws ≡ sizeAfter own n f
+      go true e = rw (← Option·some-injective _ ws e) (length-widths (2 * pointsAfter own f) (coloursAfter f))
       go false e = absurd (Option·none-ne-some ws e)
 
   -- and gives a patch
@@ -115,19 +115,12 @@ module _ (first coord comp n : ℕ) (s : List ℕ) where
 
 -- ---- cut bytes, in every format
 
-module _ {B : Type 0} (F : Format) (n : ℕ) {s t : List ℕ} (b : Begins s t) where
-  pub bytes4-begins : (row : List ℕ → List B) (r : Rule)
-      → Begins (type4Mesh 0 row r itself n (rawReading F s)) (type4Mesh 0 row r itself n (rawReading F t))
-  bytes4-begins row r = type4-begins 0 row n (reading-begins F b) r itself
+module _ {B : Type 0} (F : Format) (S : Source ℕ B) (n : ℕ) {s t : List ℕ} (b : Begins s t) where
+  pub bytes4-begins : (r : Rule) → MeshBegins (type4Mesh (triangles r) S n (rawReading F s)) (type4Mesh (triangles r) S n (rawReading F t))
+  bytes4-begins r = type4-begins S n (reading-begins F b) r
 
-  pub bytes5-begins : (row : List ℕ → List B) (rowLength : ℕ)
-      → Begins (type5Mesh 0 row n rowLength (rawReading F s)) (type5Mesh 0 row n rowLength (rawReading F t))
-  bytes5-begins row rowLength = type5-begins 0 row n (reading-begins F b) rowLength
+  pub bytes5-begins : (rowLength : ℕ) → MeshBegins (type5Mesh rowLength S n (rawReading F s)) (type5Mesh rowLength S n (rawReading F t))
+  bytes5-begins rowLength = type5-begins S n (reading-begins F b) rowLength
 
-  pub bytes6-begins : (point colour : List ℕ → List B)
-      → Begins (patchMesh 0 point colour sides itself 8 n (rawReading F s)) (patchMesh 0 point colour sides itself 8 n (rawReading F t))
-  bytes6-begins point colour = type6-begins 0 point colour itself n (reading-begins F b)
-
-  pub bytes7-begins : (point colour : List ℕ → List B)
-      → Begins (patchMesh 0 point colour sides itself 12 n (rawReading F s)) (patchMesh 0 point colour sides itself 12 n (rawReading F t))
-  bytes7-begins point colour = type7-begins 0 point colour itself n (reading-begins F b) sides
+  pub bytes67-begins : (T : Table) (own : ℕ) → MeshBegins (patchMesh T own S n (rawReading F s)) (patchMesh T own S n (rawReading F t))
+  bytes67-begins T own = patchMesh-begins S n (reading-begins F b) T own

@@ -10,9 +10,10 @@ use Rattle.lists.proofs.Pieces.{length-flat, flat-append, flat-more}
 use Rattle.lists.proofs.Writing.{written-part}
 use Rattle.rules.specs.Triangles.{Tri, corners}
 use Rattle.rules.specs.Patches.{Patch, Places, Table, at, onto, patchRow}
-use Rattle.rules.specs.Meshes.{patches, patchMesh}
-use Rattle.rules.specs.Properties.{Sized, Made, Fits}
+use Rattle.rules.specs.Meshes.{Source, patches, patchMesh}
+use Rattle.rules.specs.Inner.Sides.{Sized, Fits}
 use Rattle.rules.proofs.Lists.{length-flat-all, flat-at, part-of-flat, all-map}
+use Rattle.rules.proofs.Patches.{Made}
 use Rattle.rules.proofs.Meshes.{Numbered, patches-numbered}
 
 -- ---- triangles
@@ -99,18 +100,16 @@ module _ {P C A : Type 0} (point : P → List A) (colour : C → List A) (a m : 
 
 -- ---- the patches of a list of numbers
 
-module _ {A B : Type 0} (d : A) (point colour : List A → List B) (a m n : ℕ) (point-sized : (x : List A) → length x ≡ 2 → length (point x) ≡ a)
-    (colour-sized : (x : List A) → length x ≡ n → length (colour x) ≡ m) where
-  pub numbered-rows : (points colours : ℕ) (p : Patch (List A) (List A)) → Numbered points colours n p → Rows point colour a m p
+module _ {A B : Type 0} (S : Source A B) (a m n : ℕ) (point-sized : (x : List A) → length x ≡ 2 → length (S .point x) ≡ a)
+    (colour-sized : (x : List A) → length x ≡ n → length (S .colour x) ≡ m) where
+  pub numbered-rows : (points colours : ℕ) (p : Patch (List A) (List A)) → Numbered points colours n p → Rows (S .point) (S .colour) a m p
   numbered-rows points colours p h = (all-map _ _ (p .points) point-sized (h .1 .0), all-map _ _ (p .colours) colour-sized (h .1 .1))
 
-  length-all : (own : ℕ) (ps : List (Patch (List A) (List A))) → All (Numbered (4 + own) 4 n) ps
-      → length (flat (patchRow point colour) ps) ≡ length ps * ((4 + own) * a + 4 * m)
-  length-all own ps h =
-      length-flat-all (patchRow point colour) ((4 + own) * a + 4 * m) ps
-      (all-map _ _ ps (λ p h. length-patchRow point colour a m (4 + own) 4 p (h .0) (numbered-rows (4 + own) 4 p h)) h)
-
-  pub length-patchMesh : (T : Table) (flagOf : A → ℕ) (own : ℕ) → All (Fits (4 + own)) T → (xs : List A)
-      → length (patchMesh d point colour T flagOf own n xs) ≡ length (patches d T flagOf own n xs) * ((4 + own) * a + 4 * m)
+  pub length-patchMesh : (T : Table) (own : ℕ) → All (Fits (4 + own)) T → (xs : List A)
+      → length (patchMesh T own S n xs .numbers) ≡ patchMesh T own S n xs .count * ((4 + own) * a + 4 * m)
   unfolding patchMesh
-  length-patchMesh T flagOf own fit xs = length-all own (patches d T flagOf own n xs) (patches-numbered d flagOf own n T fit xs)
+  length-patchMesh T own fit xs =
+      let ps : List (Patch (List A) (List A)) = patches (S .missing) T (S .flag) own n xs in
+      length-flat-all (patchRow (S .point) (S .colour)) ((4 + own) * a + 4 * m) ps
+      (all-map _ _ ps (λ p h. length-patchRow (S .point) (S .colour) a m (4 + own) 4 p (h .0) (numbered-rows (4 + own) 4 p h))
+      (patches-numbered (S .missing) (S .flag) own n T fit xs))

@@ -7,7 +7,7 @@ use native.Mathlib.Omega.{arith}
 use Rattle.lists.specs.Lists.{flat, All}
 use Rattle.rules.specs.Patches.{patch, Places, sides, listSides, at, patchOf}
 use Rattle.rules.specs.Clauses.{coonsOrder, coons, tensorOrder, tensor, rowByRow, named}
-use Rattle.rules.specs.Properties.{Fits}
+use Rattle.rules.specs.Inner.Sides.{Fits}
 
 -- 8.7.4.5.7 counts from 1
 pub coons-table : map (named coonsOrder) sides ≡ coons

@@ -6,8 +6,8 @@ use native.Mathlib.Omega.{arith}
 use lib.ListN.{length}
 use Rattle.lists.specs.Lists.{flat, All, Begins}
 use Rattle.lists.proofs.Members.{all-append}
-use Rattle.rules.specs.Triangles.{Tri, tri, Stand, start, one, two, after, Rule, triangleBefore, lastThree, step, run, triangles, corners}
-use Rattle.rules.specs.Properties.{Within, InOrder}
+use Rattle.rules.specs.Triangles.{Tri, tri, Stand, start, one, two, after, Rule, triangleBefore, lastThree, step, trianglesFrom, triangles, corners}
+use Rattle.rules.proofs.Properties.{CornersBelow, InOrder}
 use Rattle.rules.proofs.Lists.{all-map, flat-begins}
 
 -- ---- vertices that go on
@@ -17,18 +17,18 @@ unfoldable pub stand : Rule → Stand → ℕ → List ℕ → Stand
 stand r s i [] = s
 stand r s i (f ∷ fs) = stand r ((step r s f i) .next) (i + 1) fs
 
-pub run-append : (r : Rule) (s : Stand) (i : ℕ) (fs gs : List ℕ)
-    → run r s i (fs ++ gs) ≡ run r s i fs ++ run r (stand r s i fs) (i + length fs) gs
-unfolding run stand
-run-append r s i [] gs = ap (λ (j : ℕ). run r s j gs) (omega arith)
-run-append r s i (f ∷ fs) gs =
+pub trianglesFrom-append : (r : Rule) (s : Stand) (i : ℕ) (fs gs : List ℕ)
+    → trianglesFrom r s i (fs ++ gs) ≡ trianglesFrom r s i fs ++ trianglesFrom r (stand r s i fs) (i + length fs) gs
+unfolding trianglesFrom stand
+trianglesFrom-append r s i [] gs = ap (λ (j : ℕ). trianglesFrom r s j gs) (omega arith)
+trianglesFrom-append r s i (f ∷ fs) gs =
     let e : i + 1 + length fs ≡ i + suc (length fs) = omega arith in
-    rw (run-append r ((step r s f i) .next) (i + 1) fs gs, append-assoc, e)
+    rw (trianglesFrom-append r ((step r s f i) .next) (i + 1) fs gs, append-assoc, e)
 
 -- two more vertices after one with flag 0
 pub new-triangle : (r : Rule) (i g h : ℕ) (fs : List ℕ)
-    → run r (one i) (i + 1) (g ∷ h ∷ fs) ≡ tri i (i + 1) (i + 2) ∷ run r (after i (i + 1) (i + 2)) (i + 3) fs
-unfolding run
+    → trianglesFrom r (one i) (i + 1) (g ∷ h ∷ fs) ≡ tri i (i + 1) (i + 2) ∷ trianglesFrom r (after i (i + 1) (i + 2)) (i + 3) fs
+unfolding trianglesFrom
 new-triangle r i g h fs =
     let p : i + 1 + 1 + 1 ≡ i + 3 = omega arith in
     let q : i + 1 + 1 ≡ i + 2 = omega arith in
@@ -39,8 +39,8 @@ pub triangles-begins : (r : Rule) {fs gs : List ℕ} → Begins fs gs → Begins
 unfolding triangles
 triangles-begins r {fs} {gs} b =
     record {
-      rest = run r (stand r start 0 fs) (0 + length fs) (b .rest);
-      is = ap (run r start 0) (b .is) ∙ run-append r start 0 fs (b .rest);
+      rest = trianglesFrom r (stand r start 0 fs) (0 + length fs) (b .rest);
+      is = ap (trianglesFrom r start 0) (b .is) ∙ trianglesFrom-append r start 0 fs (b .rest);
     }
 
 -- ---- the range and the order of the vertices
@@ -53,7 +53,7 @@ Ordered (two a b) i = (a < b) × (b < i)
 Ordered (after a b c) i = (a < b) × (b < c) × (c < i)
 
 abbrev Good : ℕ → Tri → Type 0
-Good n t = Within n t × InOrder t
+Good n t = CornersBelow n t × InOrder t
 
 step-good : (r : Rule) (s : Stand) (f i n : ℕ) → Ordered s i → i < n
     → Ordered ((step r s f i) .next) (i + 1) × All (Good n) ((step r s f i) .gives)
@@ -68,22 +68,22 @@ step-good triangleBefore (after a b c) (suc (suc zero)) i n o h = omega arith
 step-good lastThree (after a b c) (suc (suc zero)) i n o h = omega arith
 step-good r (after a b c) (suc (suc (suc f))) i n o h = omega arith
 
-run-good : (r : Rule) (s : Stand) (i n : ℕ) (fs : List ℕ) → Ordered s i → i + length fs ≤ n → All (Good n) (run r s i fs)
-unfolding run
-run-good r s i n [] o h = tt
-run-good r s i n (f ∷ fs) o h =
+trianglesFrom-good : (r : Rule) (s : Stand) (i n : ℕ) (fs : List ℕ) → Ordered s i → i + length fs ≤ n → All (Good n) (trianglesFrom r s i fs)
+unfolding trianglesFrom
+trianglesFrom-good r s i n [] o h = tt
+trianglesFrom-good r s i n (f ∷ fs) o h =
     let q = step-good r s f i n o (omega arith) in
-    all-append (Good n) ((step r s f i) .gives) (run r ((step r s f i) .next) (i + 1) fs) (q .1)
-    (run-good r ((step r s f i) .next) (i + 1) n fs (q .0) (omega arith))
+    all-append (Good n) ((step r s f i) .gives) (trianglesFrom r ((step r s f i) .next) (i + 1) fs) (q .1)
+    (trianglesFrom-good r ((step r s f i) .next) (i + 1) n fs (q .0) (omega arith))
 
 module _ (r : Rule) (fs : List ℕ) where
   all-good : All (Good (length fs)) (triangles r fs)
   unfolding triangles Ordered
-  all-good = run-good r start 0 (length fs) fs tt (omega arith)
+  all-good = trianglesFrom-good r start 0 (length fs) fs tt (omega arith)
 
   -- each triangle's vertices are among those given, and in stream order
-  pub triangles-within : All (Within (length fs)) (triangles r fs)
-  triangles-within = all-map (Good (length fs)) (Within (length fs)) (triangles r fs) (λ t g. g .0) all-good
+  pub triangles-within : All (CornersBelow (length fs)) (triangles r fs)
+  triangles-within = all-map (Good (length fs)) (CornersBelow (length fs)) (triangles r fs) (λ t g. g .0) all-good
 
   pub triangles-in-order : All InOrder (triangles r fs)
   triangles-in-order = all-map (Good (length fs)) InOrder (triangles r fs) (λ t g. g .1) all-good
@@ -92,7 +92,7 @@ module _ (r : Rule) (fs : List ℕ) where
 
 module _ {A : Type 0} where
   -- by the rows of the vertices that they have
-  pub corners-same : (n : ℕ) (row row′ : ℕ → List A) (ts : List Tri) → All (Within n) ts → ((i : ℕ) → i < n → row i ≡ row′ i)
+  pub corners-same : (n : ℕ) (row row′ : ℕ → List A) (ts : List Tri) → All (CornersBelow n) ts → ((i : ℕ) → i < n → row i ≡ row′ i)
       → flat (corners row) ts ≡ flat (corners row′) ts
   unfolding flat corners
   corners-same n row row′ [] w h = refl
@@ -101,7 +101,7 @@ module _ {A : Type 0} where
       rw (h (t .a) (u .a-in), h (t .b) (u .b-in), h (t .c) (u .c-in), corners-same n row row′ ts (w .1) h)
 
   -- triangles that go on, over vertices that go on
-  pub corners-begins : (n : ℕ) (row row′ : ℕ → List A) {ts us : List Tri} → All (Within n) ts → ((i : ℕ) → i < n → row i ≡ row′ i)
+  pub corners-begins : (n : ℕ) (row row′ : ℕ → List A) {ts us : List Tri} → All (CornersBelow n) ts → ((i : ℕ) → i < n → row i ≡ row′ i)
       → Begins ts us → Begins (flat (corners row) ts) (flat (corners row′) us)
   corners-begins n row row′ {ts} w h b = rw (corners-same n row row′ ts w h) (flat-begins (corners row′) b)
 

@@ -5,8 +5,8 @@ use mathlib.Core.List.{List, [], _∷_, _++_, map, map-append}
 use Prim.Native.Nat.{ℕ, zero, suc, _+_}
 use native.Mathlib.Omega.{arith}
 use lib.ListN.{length, length-map}
-use Rattle.rules.specs.Triangles.{Tri, tri, Stand, start, one, two, after, Rule, triangleBefore, lastThree, step, run, triangles}
-use Rattle.rules.specs.Properties.{ends, flagsUsed, NoTwoTwos}
+use Rattle.rules.specs.Triangles.{Tri, tri, Stand, start, one, two, after, Rule, triangleBefore, lastThree, step, trianglesFrom, triangles}
+use Rattle.rules.proofs.Properties.{flagsUsed, NoTwoTwos}
 use Rattle.rules.proofs.Triangles.{Ordered}
 
 -- ---- where they part
@@ -29,10 +29,10 @@ Free g (after a b c) = (g ≡ 2) → ⊥
 
 -- from one stand both rules give the same; from two that differ in the first vertex, until it is asked for
 mutual
-  unfolding run flagsUsed Free Ordered
+  unfolding trianglesFrom flagsUsed Free Ordered
 
   alike : (fs : List ℕ) (s : Stand) (i g : ℕ) → Ordered s i → Free g s
-      → (run lastThree s i fs ≡ run triangleBefore s i fs) ↔ NoTwoTwos (g ∷ flagsUsed s i fs)
+      → (trianglesFrom lastThree s i fs ≡ trianglesFrom triangleBefore s i fs) ↔ NoTwoTwos (g ∷ flagsUsed s i fs)
   alike [] s i g o h = ((λ e. tt), (λ e. refl))
   alike (zero ∷ fs) start i g o h = alike fs (one i) (i + 1) g (omega arith) tt
   alike (suc f ∷ fs) start i g o h = alike fs start (i + 1) g tt tt
@@ -47,7 +47,7 @@ mutual
   alike (suc (suc (suc f)) ∷ fs) (after a b c) i g o h = alike fs (after a b c) (i + 1) g (omega arith) h
 
   apart : (fs : List ℕ) (a d b c i : ℕ) → (a ≡ d → ⊥) → Ordered (after a b c) i
-      → (run lastThree (after d b c) i fs ≡ run triangleBefore (after a b c) i fs) ↔ NoTwoTwos (2 ∷ flagsUsed (after a b c) i fs)
+      → (trianglesFrom lastThree (after d b c) i fs ≡ trianglesFrom triangleBefore (after a b c) i fs) ↔ NoTwoTwos (2 ∷ flagsUsed (after a b c) i fs)
   apart [] a d b c i h o = ((λ e. tt), (λ e. refl))
   apart (zero ∷ fs) a d b c i h o = alike fs (one i) (i + 1) 2 (omega arith) tt
   apart (suc zero ∷ fs) a d b c i h o =
@@ -69,6 +69,10 @@ same-where fs =
     first-free (g ∷ l) = ((λ e. e .1), (λ e. ((λ p q. omega arith), e)))
 
 -- ---- counts
+
+-- the second and the third vertex
+abbrev pub ends : Tri → List ℕ
+ends t = t .b ∷ t .c ∷ []
 
 -- a stand without the first vertex of the triangle before
 loose : Stand → Stand
@@ -95,19 +99,19 @@ ends-from : Stand → ℕ → List ℕ → List (List ℕ)
 ends-from s i [] = []
 ends-from s i (f ∷ fs) = map ends ((step triangleBefore s f i) .gives) ++ ends-from (loose ((step triangleBefore s f i) .next)) (i + 1) fs
 
-run-ends : (r : Rule) (s : Stand) (i : ℕ) (fs : List ℕ) → map ends (run r s i fs) ≡ ends-from (loose s) i fs
-unfolding run ends-from
-run-ends r s i [] = refl
-run-ends r s i (f ∷ fs) =
+ends-of-triangles : (r : Rule) (s : Stand) (i : ℕ) (fs : List ℕ) → map ends (trianglesFrom r s i fs) ≡ ends-from (loose s) i fs
+unfolding trianglesFrom ends-from
+ends-of-triangles r s i [] = refl
+ends-of-triangles r s i (f ∷ fs) =
     let q = step-loose r s f i in
-    map-append ends ((step r s f i) .gives) (run r ((step r s f i) .next) (i + 1) fs)
+    map-append ends ((step r s f i) .gives) (trianglesFrom r ((step r s f i) .next) (i + 1) fs)
     ∙ ap₂ (λ (x y : List (List ℕ)). x ++ y) (q .1)
-    (run-ends r ((step r s f i) .next) (i + 1) fs ∙ ap (λ (u : Stand). ends-from u (i + 1) fs) (q .0))
+    (ends-of-triangles r ((step r s f i) .next) (i + 1) fs ∙ ap (λ (u : Stand). ends-from u (i + 1) fs) (q .0))
 
 -- the two rules never differ but in a triangle's first vertex
 pub only-first-differs : (fs : List ℕ) → map ends (triangles lastThree fs) ≡ map ends (triangles triangleBefore fs)
 unfolding triangles
-only-first-differs fs = run-ends lastThree start 0 fs ∙ sym (run-ends triangleBefore start 0 fs)
+only-first-differs fs = ends-of-triangles lastThree start 0 fs ∙ sym (ends-of-triangles triangleBefore start 0 fs)
 
 -- so they always give equally many
 pub counts-equal : (fs : List ℕ) → length (triangles lastThree fs) ≡ length (triangles triangleBefore fs)

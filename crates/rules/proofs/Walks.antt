@@ -8,7 +8,7 @@ use native.Mathlib.Numerals.{add-one}
 use native.Mathlib.Omega.{arith}
 use lib.ListN.{length, getD, drop, length-append, length-drop, drop-of-length-le}
 use lib.Seq.{drop-cons}
-use Rattle.rules.specs.Triangles.{Tri, tri, Stand, start, one, after, Rule, triangleBefore, lastThree, kept, run, triangles}
+use Rattle.rules.specs.Triangles.{Tri, tri, Stand, start, one, after, Rule, triangleBefore, lastThree, kept, trianglesFrom, triangles}
 use Rattle.rules.proofs.Triangles.{new-triangle}
 
 -- between two turns the vertices have come to the start, or to the three from which to go on
@@ -30,7 +30,7 @@ Last lastThree (some t) done = (front : List Tri) × (x : ℕ) × (done ≡ fron
 module _ (r : Rule) (fs : List ℕ) where
   -- the vertices before i have given the triangles done
   pub record Walk (i : ℕ) (done : List Tri) (before : Option Tri) : Type 0 where
-    pub split : triangles r fs ≡ done ++ run r (standOf before) i (drop i fs)
+    pub split : triangles r fs ≡ done ++ trianglesFrom r (standOf before) i (drop i fs)
     pub last : Last r before done
 
   pub walk-start : Walk 0 [] none
@@ -39,7 +39,7 @@ module _ (r : Rule) (fs : List ℕ) where
 
   -- no more is given than there is
   pub walk-room : {i : ℕ} {done : List Tri} {before : Option Tri} → Walk i done before → length done ≤ length (triangles r fs)
-  walk-room {i} {done} {before} w = omega (arith, ap length (w .split), length-append done (run r (standOf before) i (drop i fs)))
+  walk-room {i} {done} {before} w = omega (arith, ap length (w .split), length-append done (trianglesFrom r (standOf before) i (drop i fs)))
 
   -- ---- the flag of vertex i
 
@@ -47,20 +47,20 @@ module _ (r : Rule) (fs : List ℕ) where
   here i h = rw add-one (drop-cons fs i 0 h)
 
   pub walk-end : {i : ℕ} {done : List Tri} {before : Option Tri} → Walk i done before → length fs ≤ i → triangles r fs ≡ done
-  unfolding run
+  unfolding trianglesFrom
   walk-end {i} {done} w h = w .split ∙ rw (drop-of-length-le fs h, append-nil)
 
   -- a step that gives the triangles ts
   goes : {i : ℕ} {done : List Tri} {before : Option Tri} (j : ℕ) (ts : List Tri) (before′ : Option Tri) → Walk i done before
-      → run r (standOf before) i (drop i fs) ≡ ts ++ run r (standOf before′) j (drop j fs) → Last r before′ (done ++ ts) → Walk j (done ++ ts) before′
+      → trianglesFrom r (standOf before) i (drop i fs) ≡ ts ++ trianglesFrom r (standOf before′) j (drop j fs) → Last r before′ (done ++ ts) → Walk j (done ++ ts) before′
   goes {i} {done} j ts before′ w e l =
       record {
-        split = w .split ∙ ap (λ (us : List Tri). done ++ us) e ∙ sym (append-assoc done ts (run r (standOf before′) j (drop j fs)));
+        split = w .split ∙ ap (λ (us : List Tri). done ++ us) e ∙ sym (append-assoc done ts (trianglesFrom r (standOf before′) j (drop j fs)));
         last = l;
       }
 
-  begins-new : (before : Option Tri) (i : ℕ) (gs : List ℕ) → run r (standOf before) i (0 ∷ gs) ≡ run r (one i) (i + 1) gs
-  unfolding run
+  begins-new : (before : Option Tri) (i : ℕ) (gs : List ℕ) → trianglesFrom r (standOf before) i (0 ∷ gs) ≡ trianglesFrom r (one i) (i + 1) gs
+  unfolding trianglesFrom
   begins-new none i gs = refl
   begins-new (some t) i gs = refl
 
@@ -87,11 +87,11 @@ module _ (r : Rule) (fs : List ℕ) where
       let e : drop i fs ≡ 0 ∷ getD fs (i + 1) 0 ∷ getD fs (i + 2) 0 ∷ drop (i + 3) fs =
       rw (here i (omega arith), here (i + 1) (omega arith), p, here (i + 2) (omega arith), q, z) in
       goes (i + 3) (t ∷ []) (some t) w
-      (ap (run r (standOf before) i) e ∙ begins-new before i _ ∙ new-triangle r i (getD fs (i + 1) 0) (getD fs (i + 2) 0) (drop (i + 3) fs))
+      (ap (trianglesFrom r (standOf before) i) e ∙ begins-new before i _ ∙ new-triangle r i (getD fs (i + 1) 0) (getD fs (i + 2) 0) (drop (i + 3) fs))
       (last-is r done t)
 
-  too-short : (i : ℕ) (gs : List ℕ) → length gs < 2 → run r (one i) (i + 1) gs ≡ []
-  unfolding run
+  too-short : (i : ℕ) (gs : List ℕ) → length gs < 2 → trianglesFrom r (one i) (i + 1) gs ≡ []
+  unfolding trianglesFrom
   too-short i [] h = refl
   too-short i (g ∷ []) h = refl
   too-short i (g ∷ k ∷ gs) h = absurd (omega arith)
@@ -102,54 +102,54 @@ module _ (r : Rule) (fs : List ℕ) where
       let e : drop i fs ≡ 0 ∷ drop (i + 1) fs = rw (here i l, z) in
       w .split
       ∙ ap (λ (us : List Tri). done ++ us)
-      (ap (run r (standOf before) i) e ∙ begins-new before i _ ∙ too-short i (drop (i + 1) fs) (rw length-drop (omega arith)))
+      (ap (trianglesFrom r (standOf before) i) e ∙ begins-new before i _ ∙ too-short i (drop (i + 1) fs) (rw length-drop (omega arith)))
       ∙ append-nil done
 
   -- ---- flags 1 and 2
 
   pub walk-bc : {i : ℕ} {done : List Tri} {t : Tri} → Walk i done (some t) → i < length fs → getD fs i 0 ≡ 1
       → Walk (i + 1) (done ++ (tri (t .b) (t .c) i ∷ [])) (some (tri (t .b) (t .c) i))
-  unfolding run
+  unfolding trianglesFrom
   walk-bc {i} {done} {t} w h z =
       let u : Tri = tri (t .b) (t .c) i in
       let e : drop i fs ≡ 1 ∷ drop (i + 1) fs = rw (here i h, z) in
-      goes (i + 1) (u ∷ []) (some u) w (ap (run r (standOf (some t)) i) e) (last-is r done u)
+      goes (i + 1) (u ∷ []) (some u) w (ap (trianglesFrom r (standOf (some t)) i) e) (last-is r done u)
 
   pub walk-ac : {i : ℕ} {done : List Tri} {t : Tri} → Walk i done (some t) → i < length fs → getD fs i 0 ≡ 2
       → Walk (i + 1) (done ++ (tri (t .a) (t .c) i ∷ [])) (some (keptOf r t i))
-  unfolding run
+  unfolding trianglesFrom
   walk-ac {i} {done} {t} w h z =
       let u : Tri = tri (t .a) (t .c) i in
       let e : drop i fs ≡ 2 ∷ drop (i + 1) fs = rw (here i h, z) in
       goes (i + 1) (u ∷ []) (some (keptOf r t i)) w
-      (ap (run r (standOf (some t)) i) e ∙ ap (λ (s : Stand). u ∷ run r s (i + 1) (drop (i + 1) fs)) (stand-kept r t i)) (last-kept r done t i)
+      (ap (trianglesFrom r (standOf (some t)) i) e ∙ ap (λ (s : Stand). u ∷ trianglesFrom r s (i + 1) (drop (i + 1) fs)) (stand-kept r t i)) (last-kept r done t i)
 
   -- ---- a vertex that is dropped
 
   passes : {i : ℕ} {done : List Tri} {before : Option Tri} → Walk i done before → i < length fs
-      → ((gs : List ℕ) → run r (standOf before) i (getD fs i 0 ∷ gs) ≡ run r (standOf before) (i + 1) gs) → Walk (i + 1) done before
+      → ((gs : List ℕ) → trianglesFrom r (standOf before) i (getD fs i 0 ∷ gs) ≡ trianglesFrom r (standOf before) (i + 1) gs) → Walk (i + 1) done before
   passes {i} {done} {before} w h e =
       record {
-        split = w .split ∙ ap (λ (us : List Tri). done ++ us) (ap (run r (standOf before) i) (here i h) ∙ e (drop (i + 1) fs));
+        split = w .split ∙ ap (λ (us : List Tri). done ++ us) (ap (trianglesFrom r (standOf before) i) (here i h) ∙ e (drop (i + 1) fs));
         last = w .last;
       }
 
   pub walk-alone : {i : ℕ} {done : List Tri} → Walk i done none → i < length fs → 1 ≤ getD fs i 0 → Walk (i + 1) done none
   walk-alone {i} w h z = passes w h (λ gs. go (getD fs i 0) z gs)
     where
-      go : (f : ℕ) → 1 ≤ f → (gs : List ℕ) → run r start i (f ∷ gs) ≡ run r start (i + 1) gs
+      go : (f : ℕ) → 1 ≤ f → (gs : List ℕ) → trianglesFrom r start i (f ∷ gs) ≡ trianglesFrom r start (i + 1) gs
       go zero z gs = absurd (omega arith)
-      go (suc f) z gs = unfold run in refl
+      go (suc f) z gs = unfold trianglesFrom in refl
 
   pub walk-far : {i : ℕ} {done : List Tri} {before : Option Tri} → Walk i done before → i < length fs → 3 ≤ getD fs i 0 → Walk (i + 1) done before
   walk-far {i} {done} {before} w h z = passes w h (λ gs. go before (getD fs i 0) z gs)
     where
-      go : (b : Option Tri) (f : ℕ) → 3 ≤ f → (gs : List ℕ) → run r (standOf b) i (f ∷ gs) ≡ run r (standOf b) (i + 1) gs
+      go : (b : Option Tri) (f : ℕ) → 3 ≤ f → (gs : List ℕ) → trianglesFrom r (standOf b) i (f ∷ gs) ≡ trianglesFrom r (standOf b) (i + 1) gs
       go b zero z gs = absurd (omega arith)
       go b (suc zero) z gs = absurd (omega arith)
       go b (suc (suc zero)) z gs = absurd (omega arith)
-      go none (suc (suc (suc f))) z gs = unfold run in refl
-      go (some t) (suc (suc (suc f))) z gs = unfold run in refl
+      go none (suc (suc (suc f))) z gs = unfold trianglesFrom in refl
+      go (some t) (suc (suc (suc f))) z gs = unfold trianglesFrom in refl
 
   -- ---- whether a triangle has come
 

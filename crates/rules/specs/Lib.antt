@@ -4,4 +4,4 @@ pub mod Patches
 pub mod Meshes
 pub mod Clauses
 pub mod Ported
-pub mod Properties
+pub mod Inner

@@ -1,15 +1,29 @@
--- The finished meshes of a list of numbers, raw ones or f64, with n components to a colour: document 01, "Records". flagOf makes a number a flag,
--- d stands for a number that a list does not have. What comes after the last whole vertex or record counts for nothing.
+-- The finished meshes of a list of numbers, raw ones or f64, with n components to a colour: document 01, "Records". What comes after the last whole
+-- vertex or record counts for nothing.
 use mathlib.Core.Bool.{cond}
-use mathlib.Core.List.{List, [], _∷_}
+use mathlib.Core.List.{List, [], _∷_, _++_}
 use mathlib.Core.Option.{none}
 use Prim.Native.Nat.{ℕ, zero, suc, _+_, _*_, _/_}
 use lib.Dec.{leb}
-use lib.ListN.{length, getD, drop}
+use lib.ListN.{length, getD, take, drop}
 use Rattle.lists.specs.Lists.{joined, part, flat}
-use Rattle.rules.specs.Triangles.{Rule, triangles, corners}
+use Rattle.records.specs.Format.{pointsAfter, coloursAfter}
+use Rattle.rules.specs.Triangles.{Tri, FlagRule, corners}
 use Rattle.rules.specs.Lattice.{lattice}
 use Rattle.rules.specs.Patches.{Patch, patch, Table, Piece, mesh, patchRow}
+
+-- What the numbers of a list stand for: `missing` for a number that the list does not have, `flag` for the flag that a number is, `point` and
+-- `colour` for what the two numbers of a point and the n numbers of a colour are written as.
+pub record Source (A B : Type 0) : Type 0 where
+  pub missing : A
+  pub flag : A → ℕ
+  pub point : List A → List B
+  pub colour : List A → List B
+
+-- how many triangles or patches, and what is written of them
+pub record Finished (B : Type 0) : Type 0 where
+  pub count : ℕ
+  pub numbers : List B
 
 -- ---- Types 4 and 5
 
@@ -25,26 +39,24 @@ module _ {A : Type 0} (d : A) where
   unfoldable pub vertex5 : ℕ → List A → ℕ → List A
   vertex5 n xs i = part d xs (i * (n + 2)) (n + 2)
 
--- row makes the numbers of a vertex what is written
-module _ {A B : Type 0} (d : A) (row : List A → List B) where
-  unfoldable pub type4Mesh : Rule → (A → ℕ) → ℕ → List A → List B
-  type4Mesh r flagOf n xs = flat (corners (λ (i : ℕ). row (vertex4 d n xs i))) (triangles r (flags d flagOf n xs))
+-- triangles, where row i is what vertex i is written as
+abbrev pub finished : {B : Type 0} → List Tri → (ℕ → List B) → Finished B
+finished tris row = record { count = length tris; numbers = flat (corners row) tris }
 
-  unfoldable pub type5Mesh : ℕ → ℕ → List A → List B
-  type5Mesh n rowLength xs = flat (corners (λ (i : ℕ). row (vertex5 d n xs i))) (lattice (length xs / (n + 2)) rowLength)
+module _ {A B : Type 0} where
+  -- what x, y and components are written as
+  abbrev pub vertexRow : Source A B → List A → List B
+  vertexRow S xs = S .point (take 2 xs) ++ S .colour (drop 2 xs)
+
+  unfoldable pub type4Mesh : FlagRule → Source A B → ℕ → List A → Finished B
+  type4Mesh rule S n xs = finished (rule (flags (S .missing) (S .flag) n xs)) (λ (i : ℕ). vertexRow S (vertex4 (S .missing) n xs i))
+
+  unfoldable pub type5Mesh : ℕ → Source A B → ℕ → List A → Finished B
+  type5Mesh rowLength S n xs = finished (lattice (length xs / (n + 2)) rowLength) (λ (i : ℕ). vertexRow S (vertex5 (S .missing) n xs i))
 
 -- ---- Types 6 and 7
 
--- How many points and colours follow a flag, where a joined patch has so many points of its own: 8 in Type 6, 12 in Type 7.
-abbrev pub pointsAfter : ℕ → ℕ → ℕ
-pointsAfter own zero = 4 + own
-pointsAfter own (suc f) = own
-
-abbrev pub coloursAfter : ℕ → ℕ
-coloursAfter zero = 4
-coloursAfter (suc f) = 2
-
--- how many numbers: two to a point, n to a colour
+-- how many numbers follow a flag: two to a point, n to a colour
 abbrev pub sizeAfter : ℕ → ℕ → ℕ → ℕ
 sizeAfter own n f = 2 * pointsAfter own f + coloursAfter f * n
 
@@ -73,6 +85,8 @@ module _ {A : Type 0} (d : A) where
   unfoldable pub patches : Table → (A → ℕ) → ℕ → ℕ → List A → List (Patch (List A) (List A))
   patches T flagOf own n xs = mesh T none (pieces flagOf own n xs)
 
--- point and colour make the numbers of a point and of a colour what is written
-unfoldable pub patchMesh : {A B : Type 0} → A → (List A → List B) → (List A → List B) → Table → (A → ℕ) → ℕ → ℕ → List A → List B
-patchMesh d point colour T flagOf own n xs = flat (patchRow point colour) (patches d T flagOf own n xs)
+-- a joined patch has so many points of its own: 8 in Type 6, 12 in Type 7
+unfoldable pub patchMesh : {A B : Type 0} → Table → ℕ → Source A B → ℕ → List A → Finished B
+patchMesh T own S n xs =
+    let ps : List (Patch (List _) (List _)) = patches (S .missing) T (S .flag) own n xs in
+    record { count = length ps; numbers = flat (patchRow (S .point) (S .colour)) ps }

@@ -51,13 +51,17 @@ step r (after va vb vc) (suc zero) vd = triangle (tri vb vc vd) (after vb vc vd)
 step r (after va vb vc) (suc (suc zero)) vd = triangle (tri va vc vd) (kept r va vb vc vd)
 step r (after va vb vc) (suc (suc (suc f))) v = nothing (after va vb vc)
 
--- the triangles of the vertices i, i + 1 and on, by their flags
-unfoldable pub run : Rule → Stand → ℕ → List ℕ → List Tri
-run r s i [] = []
-run r s i (f ∷ fs) = (step r s f i) .gives ++ run r ((step r s f i) .next) (i + 1) fs
+-- what the flags of the vertices, in order, come to
+abbrev pub FlagRule : Type 0
+FlagRule = List ℕ → List Tri
 
-unfoldable pub triangles : Rule → List ℕ → List Tri
-triangles r fs = run r start 0 fs
+-- the triangles of the vertices i, i + 1 and on, by their flags
+unfoldable pub trianglesFrom : Rule → Stand → ℕ → List ℕ → List Tri
+trianglesFrom r s i [] = []
+trianglesFrom r s i (f ∷ fs) = (step r s f i) .gives ++ trianglesFrom r ((step r s f i) .next) (i + 1) fs
+
+unfoldable pub triangles : Rule → FlagRule
+triangles r fs = trianglesFrom r start 0 fs
 
 -- what a triangle is written as, where row i is what vertex i is written as
 unfoldable pub corners : {A : Type 0} → (ℕ → List A) → Tri → List A
