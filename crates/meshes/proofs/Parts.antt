@@ -2,7 +2,7 @@
 use Prim.Native.Nat.{ℕ, zero, suc, _+_, _*_, _/_, _≤_, _<_}
 use mathlib.Core.Path.{_≡_, sym, ap}
 use mathlib.Core.List.{List, [], _∷_, _++_, append-assoc, append-nil}
-use native.Mathlib.Nat.{lt-of-not-le, add-assoc, mul-div-cancel}
+use native.Mathlib.Nat.{add-zero, lt-of-not-le, add-assoc, mul-div-cancel}
 use native.Mathlib.Decide.{decLe}
 use native.Mathlib.Omega.{arith}
 use lib.ListN.{length, getD, List·getD-append}
@@ -42,16 +42,17 @@ module _ {A : Type 0} where
           let e : i ≡ k = omega arith in
           rw (e, ← (length-joined k m f sized), part-second) (part-first d (f k) ys from size (rw (sized k) w))
 
-  -- the first element of piece i
-  pub first-of-piece : (d : A) (k m : ℕ) (f : ℕ → List A) → ((i : ℕ) → length (f i) ≡ m) → (ys : List A) (i : ℕ) → i < k → 1 ≤ m
-      → getD (joined k f ++ ys) (i * m) d ≡ getD (f i) 0 d
-  first-of-piece d k m f sized ys i h w =
-      let e : part d (joined k f ++ ys) (i * m + 0) 1 ≡ part d (f i) 0 1 = part-of-piece d k m f sized ys i 0 1 h w in
-      let n : i * m + 0 + 0 ≡ i * m = omega arith in
-      rw n at (heads (joined k f ++ ys) (f i) (i * m + 0) e)
+  -- an element of piece i
+  pub element-of-piece : (d : A) (k m : ℕ) (f : ℕ → List A) → ((i : ℕ) → length (f i) ≡ m) → (i j : ℕ) → i < k → j < m
+      → getD (joined k f) (i * m + j) d ≡ getD (f i) j d
+  element-of-piece d k m f sized i j h w =
+      rw (← (append-nil (joined k f)))
+      (heads (joined k f ++ []) (f i) (i * m + j) j (part-of-piece d k m f sized [] i j 1 h (omega arith)))
     where
-      heads : (xs zs : List A) (from : ℕ) → part d xs from 1 ≡ part d zs 0 1 → getD xs (from + 0) d ≡ getD zs 0 d
-      heads xs zs from e = unfold part in unfold joined in ap (λ (l : List A). getD l 0 d) e
+      heads : (xs zs : List A) (from at : ℕ) → part d xs from 1 ≡ part d zs at 1 → getD xs from d ≡ getD zs at d
+      heads xs zs from at e =
+          let f : getD xs (from + 0) d ≡ getD zs (at + 0) d = unfold part joined in ap (λ (l : List A). getD l 0 d) e in
+          rw (add-zero from, add-zero at) at f
 
   -- how many pieces there are
   pub count-pieces : (k m : ℕ) (f : ℕ → List A) → ((i : ℕ) → length (f i) ≡ m) → 1 ≤ m → length (joined k f) / m ≡ k

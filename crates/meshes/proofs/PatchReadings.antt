@@ -11,37 +11,30 @@ use lib.ListN.{length}
 use lib.Ieee.{Float, nan}
 use Rattle.lists.specs.Lists.{All}
 use Rattle.answers.specs.Limits.{mostComponents, mostNumbers}
-use Rattle.answers.specs.Told.{told}
+use Rattle.answers.specs.Outcome.{told, Outcome, refuseIf, fitted, tells}
 use Rattle.answers.specs.declared.Answer.the-variants.{Wrote}
 use Rattle.answers.specs.declared.Refusal.the-variants.{Components, Length, Room}
-use Rattle.answers.specs.Outcome.{Outcome, refuseIf, fitted, tells}
-use Rattle.decode.specs.Flag.{flagOf}
-use Rattle.colour.specs.Colour.{colourRow}
+use Rattle.decode.specs.Decode.{flagOf}
 use Rattle.rules.specs.Patches.{Patch, Piece, Table, sides, listSides, mesh}
 use Rattle.rules.specs.Meshes.{pieces, patches, patchMesh}
-use Rattle.rules.specs.Properties.{Fits}
 use Rattle.rules.proofs.Patches.{mesh-more, tables-count-equal}
 use Rattle.rules.proofs.Tables.{sides-fit}
 use Rattle.rules.proofs.Rows.{length-patchMesh}
-use Rattle.meshes.specs.Outcomes.{built, listed67, build7}
-use Rattle.meshes.proofs.ListedPatches.{colour-sized}
+use Rattle.meshes.specs.Decoded.{asListed}
+use Rattle.meshes.specs.Outcomes.{built, build7}
+use Rattle.meshes.proofs.Standing.{reads-listed}
 
 module _ (vs : List Float) (n : ℕ) where
   -- equally many patches
-  pub list-counts-equal : listed67 listSides 12 n vs .count ≡ listed67 sides 12 n vs .count
-  unfolding listed67 patches
+  pub list-counts-equal : patchMesh listSides 12 asListed n vs .count ≡ patchMesh sides 12 asListed n vs .count
+  unfolding patchMesh patches
   list-counts-equal = tables-count-equal (pieces nan flagOf 12 n vs)
 
-  length-numbers : (T : Table) → All (Fits 16) T → length (listed67 T 12 n vs .numbers) ≡ listed67 T 12 n vs .count * (16 * 2 + 4 * (8 + n))
-  unfolding listed67
-  length-numbers T fit = length-patchMesh nan (λ (point : List Float). point) colourRow 2 (8 + n) n (λ x h. h) (colour-sized vs 12 n) T flagOf 12 fit vs
-
   -- which take equally many places
-  pub list-lengths-equal : length (listed67 listSides 12 n vs .numbers) ≡ length (listed67 sides 12 n vs .numbers)
+  pub list-lengths-equal : length (patchMesh listSides 12 asListed n vs .numbers) ≡ length (patchMesh sides 12 asListed n vs .numbers)
   list-lengths-equal =
-      length-numbers listSides (sides-fit .2)
-      ∙ ap (λ (k : ℕ). k * (16 * 2 + 4 * (8 + n))) list-counts-equal
-      ∙ sym (length-numbers sides (sides-fit .1))
+      let long = length-patchMesh asListed 2 (8 + n) n (reads-listed .point-sized) (reads-listed .colour-sized n) in
+      long listSides 12 (sides-fit .2) vs ∙ ap (λ (k : ℕ). k * (16 * 2 + 4 * (8 + n))) list-counts-equal ∙ sym (long sides 12 (sides-fit .1) vs)
 
   told-alike : (a b c : Bool) (k m : ℕ) (xs ys : List Float) → k ≡ m
       → tells (refuseIf a Components (refuseIf b Length (refuseIf c Room (Outcome.wrote k xs)))) ≡ tells (refuseIf a Components (refuseIf b Length (refuseIf c Room (Outcome.wrote m ys))))
@@ -55,7 +48,7 @@ module _ (vs : List Float) (n : ℕ) where
   unfolding built fitted
   type7-lists-tell-alike room =
       rw list-lengths-equal
-      (told-alike (ltb mostComponents n) (ltb mostNumbers (length vs)) (ltb room (length (listed67 sides 12 n vs .numbers))) _ _ _ _ list-counts-equal)
+      (told-alike (ltb mostComponents n) (ltb mostNumbers (length vs)) (ltb room (length (patchMesh sides 12 asListed n vs .numbers))) _ _ _ _ list-counts-equal)
 
 -- where every flag is 0, no side is taken over
 new-alike : {P C : Type 0} (T U : Table) (b : Option (Patch P C)) (qs : List (Piece P C)) → All (λ (q : Piece P C). q .flag ≡ 0) qs
@@ -68,6 +61,6 @@ new-alike T U b (q ∷ qs) a =
     ∙ sym (mesh-more U b q qs (q .body) (rw (a .0)))
 
 pub type7-lists-agree-on-new-patches : (vs : List Float) (n : ℕ) → All (λ (q : Piece (List Float) (List Float)). q .flag ≡ 0) (pieces nan flagOf 12 n vs)
-    → listed67 listSides 12 n vs ≡ listed67 sides 12 n vs
-unfolding listed67 patchMesh patches
+    → patchMesh listSides 12 asListed n vs ≡ patchMesh sides 12 asListed n vs
+unfolding patchMesh patches
 type7-lists-agree-on-new-patches vs n a = rw (new-alike listSides sides none (pieces nan flagOf 12 n vs) a)

@@ -1,5 +1,5 @@
 -- The raw reading of a Type 4 or Type 5 mesh is its vertices one after the other, each as many bits after the one before. Assumes nothing.
-use Prim.Native.Nat.{ℕ, zero, suc, _+_, _-_, _*_, _/_, _≤_, _<_}
+use Prim.Native.Nat.{ℕ, zero, suc, _+_, _*_, _/_, _≤_, _<_}
 use mathlib.Core.Path.{_≡_, refl, sym, ap, _∙_}
 use mathlib.Core.Bool.{Bool, true, false}
 use mathlib.Core.List.{List, _∷_, _++_}
@@ -74,21 +74,25 @@ vertex-bits : (first coords coord n comp : ℕ) → first + sum (replicate coord
 vertex-bits first coords coord n comp =
     rw (sum-append (replicate coords coord) (replicate n comp), sum-replicate coords coord, sum-replicate n comp)
 
+-- how many places a vertex takes, with so many for its flag
+abbrev pub vertexSize : ℕ → ℕ → ℕ → ℕ → ℕ
+vertexSize lead coord comp n = lead + (2 * coord + n * comp)
+
 module _ (s : List ℕ) (coord comp n : ℕ) where
   -- flag, x, y and components
   pub raw-type4 : (flag : ℕ) → 1 ≤ flag
-      → rawReading (format Four flag coord comp n) s
-      ≡ joined (8 * length s / (flag + (2 * coord + n * comp)))
-      (λ (i : ℕ). numbers (flag ∷ coord ∷ coord ∷ replicate n comp) (drop (i * (flag + (2 * coord + n * comp))) (stream s)))
+      → let size : ℕ = vertexSize flag coord comp n in
+      rawReading (format Four flag coord comp n) s
+      ≡ joined (8 * length s / size) (λ (i : ℕ). numbers (flag ∷ coord ∷ coord ∷ replicate n comp) (drop (i * size) (stream s)))
   raw-type4 flag h =
       same-records (format Four flag coord comp n) (coord ∷ coord ∷ replicate n comp) (vertex-more Four flag coord comp n 2 (λ started x. refl)) h
-      (flag + (2 * coord + n * comp)) (vertex-bits flag 2 coord n comp) s
+      (vertexSize flag coord comp n) (vertex-bits flag 2 coord n comp) s
 
   -- x, y and components
   pub raw-type5 : 1 ≤ coord
-      → rawReading (format Five coord coord comp n) s
-      ≡ joined (8 * length s / (2 * coord + n * comp))
-      (λ (i : ℕ). numbers (coord ∷ coord ∷ replicate n comp) (drop (i * (2 * coord + n * comp)) (stream s)))
+      → let size : ℕ = vertexSize 0 coord comp n in
+      rawReading (format Five coord coord comp n) s
+      ≡ joined (8 * length s / size) (λ (i : ℕ). numbers (coord ∷ coord ∷ replicate n comp) (drop (i * size) (stream s)))
   raw-type5 h =
       same-records (format Five coord coord comp n) (coord ∷ replicate n comp) (vertex-more Five coord coord comp n 1 (λ started x. refl)) h
-      (2 * coord + n * comp) (vertex-bits coord 1 coord n comp ∙ omega arith) s
+      (vertexSize 0 coord comp n) (vertex-bits coord 1 coord n comp ∙ omega arith) s

@@ -1,34 +1,31 @@
 -- What each reader and builder answers and leaves, for every input: document 01, "Refusal numbers" and "Records". A mesh read from bytes is Decode
 -- and the rules over the raw reading; one built from a list is the rules over the list.
-use Prim.Native.Nat.{ℕ, _/_, _+_}
+use Prim.Native.Nat.{ℕ}
 use mathlib.Core.Bool.{not}
 use mathlib.Core.List.{List}
+use mathlib.Core.Option.{none}
 use lib.ListN.{length}
-use Rattle.lists.specs.Lists.{flat}
 use lib.Dec.{ltb}
-use lib.Ieee.{Float, nan}
+use lib.Ieee.{Float}
 use Rattle.answers.specs.declared.Refusal.the-variants.{Layout, Components, Length}
 use Rattle.answers.specs.Limits.{mostComponents, mostBytes, mostNumbers}
 use Rattle.answers.specs.Outcome.{Outcome, refuseIf, fitted}
-use Rattle.decode.specs.Flag.{flagOf}
-use Rattle.colour.specs.Colour.{colourRow}
+use Rattle.decode.specs.Decode.{ranges}
 use Rattle.records.specs.declared.layout.FlagWidth.{FlagWidth}
 use Rattle.records.specs.declared.layout.FlagWidth.the-variants.{Absent, Bits}
 use Rattle.records.specs.declared.shape.Kind.{Kind}
 use Rattle.records.specs.declared.shape.Kind.the-variants.{Four, Five, Six, Seven}
 use Rattle.records.specs.Layout.{firstWidth, layoutReadable}
 use Rattle.records.specs.Format.{format, rawReading}
-use Rattle.rows.specs.Rows.{Ranges, ranges}
-use Rattle.rules.specs.Triangles.{Tri, corners}
-use Rattle.rules.specs.Lattice.{lattice}
-use Rattle.rules.specs.Patches.{Table}
-use Rattle.rules.specs.Meshes.{flags, vertex4, type5Mesh, patches, patchMesh}
-use Rattle.meshes.specs.Decoded.{decodedPoint, decodedColour, decodedVertex, listedVertex}
+use Rattle.rules.specs.Triangles.{FlagRule}
+use Rattle.rules.specs.Ported.{binaryReader}
+use Rattle.rules.specs.Patches.{Table, sides}
+use Rattle.rules.specs.Meshes.{Source, Finished, type4Mesh, type5Mesh, patchMesh}
+use Rattle.meshes.specs.Decoded.{byDecode, asListed}
 
--- a finished mesh: how many triangles or patches, and their numbers
-pub record Finished : Type 0 where
-  pub count : ℕ
-  pub numbers : List Float
+-- ROOM exactly when the mesh has more numbers than there is room for
+abbrev pub fittedMesh : Finished Float → ℕ → Outcome Float
+fittedMesh mesh room = fitted (mesh .count) (mesh .numbers) room
 
 -- ---- from bytes
 
@@ -45,95 +42,58 @@ pub record Stream : Type 0 where
 abbrev pub rawOf : Stream → List ℕ → List ℕ
 rawOf m s = rawReading (format (m .kind) (firstWidth (m .flag) (m .coord)) (m .coord) (m .comp) (m .n)) s
 
-abbrev pub rangesOf : Stream → Ranges
-rangesOf m = ranges (m .entries) (m .coord) (m .comp)
+-- what they stand for
+abbrev pub decodeOf : Stream → Source ℕ Float
+decodeOf m = byDecode (ranges (m .entries) (m .coord) (m .comp))
 
 -- LAYOUT, COMPONENTS, LENGTH, ROOM; then the mesh that the raw numbers make
-unfoldable pub parsed : Stream → (List ℕ → Finished) → List ℕ → ℕ → Outcome Float
-parsed m finish s room =
+unfoldable pub parsed : Stream → (Source ℕ Float → ℕ → List ℕ → Finished Float) → List ℕ → ℕ → Outcome Float
+parsed m mesh s room =
     refuseIf (not (layoutReadable (m .coord) (m .comp) (m .flag) (length (m .entries)))) Layout
     (refuseIf (ltb mostComponents (m .n)) Components
     (refuseIf (ltb mostBytes (length s)) Length
-    (fitted (finish (rawOf m s) .count) (finish (rawOf m s) .numbers) room)))
-
--- a raw number is its own flag
-abbrev pub itself : ℕ → ℕ
-itself x = x
-
--- a Type 4 rule: the triangles that the flags of the vertices give
-abbrev pub FlagRule : Type 0
-FlagRule = List ℕ → List Tri
-
-unfoldable pub triangles4 : FlagRule → Stream → List ℕ → Finished
-triangles4 rule m xs =
-    let tris : List Tri = rule (flags 0 itself (m .n) xs) in
-    record { count = length tris; numbers = flat (corners (λ (i : ℕ). decodedVertex (rangesOf m) (vertex4 0 (m .n) xs i))) tris }
-
-unfoldable pub triangles5 : ℕ → Stream → List ℕ → Finished
-triangles5 row m xs =
-    record { count = length (lattice (length xs / (m .n + 2)) row); numbers = type5Mesh 0 (decodedVertex (rangesOf m)) (m .n) row xs }
-
--- own is how many points a joined patch has of its own: 8 in Type 6, 12 in Type 7
-unfoldable pub patches67 : Table → ℕ → Stream → List ℕ → Finished
-patches67 T own m xs =
-    record {
-      count = length (patches 0 T itself own (m .n) xs);
-      numbers = patchMesh 0 (decodedPoint (rangesOf m)) (decodedColour (rangesOf m)) T itself own (m .n) xs;
-    }
+    (fittedMesh (mesh (decodeOf m) (m .n) (rawOf m s)) room)))
 
 abbrev pub parse4 : FlagRule → List ℕ → ℕ → ℕ → ℕ → List Float → ℕ → ℕ → Outcome Float
 parse4 rule s coord comp flag entries n room =
-    let m : Stream = record { kind = Four; flag = Bits flag; coord = coord; comp = comp; entries = entries; n = n } in
-    parsed m (triangles4 rule m) s room
+    parsed (record { kind = Four; flag = Bits flag; coord = coord; comp = comp; entries = entries; n = n }) (type4Mesh rule) s room
 
 abbrev pub parse5 : List ℕ → ℕ → ℕ → List Float → ℕ → ℕ → ℕ → Outcome Float
 parse5 s coord comp entries n row room =
-    let m : Stream = record { kind = Five; flag = Absent; coord = coord; comp = comp; entries = entries; n = n } in
-    parsed m (triangles5 row m) s room
+    parsed (record { kind = Five; flag = Absent; coord = coord; comp = comp; entries = entries; n = n }) (type5Mesh row) s room
 
 abbrev pub parse6 : Table → List ℕ → ℕ → ℕ → ℕ → List Float → ℕ → ℕ → Outcome Float
 parse6 T s coord comp flag entries n room =
-    let m : Stream = record { kind = Six; flag = Bits flag; coord = coord; comp = comp; entries = entries; n = n } in
-    parsed m (patches67 T 8 m) s room
+    parsed (record { kind = Six; flag = Bits flag; coord = coord; comp = comp; entries = entries; n = n }) (patchMesh T 8) s room
 
 abbrev pub parse7 : Table → List ℕ → ℕ → ℕ → ℕ → List Float → ℕ → ℕ → Outcome Float
 parse7 T s coord comp flag entries n room =
-    let m : Stream = record { kind = Seven; flag = Bits flag; coord = coord; comp = comp; entries = entries; n = n } in
-    parsed m (patches67 T 12 m) s room
+    parsed (record { kind = Seven; flag = Bits flag; coord = coord; comp = comp; entries = entries; n = n }) (patchMesh T 12) s room
+
+-- the ported reader of a type; the row length is used by Type 5 alone
+unfoldable pub portedReader : Kind → List ℕ → ℕ → ℕ → ℕ → List Float → ℕ → ℕ → ℕ → Outcome Float
+portedReader Four s coord comp flag entries n row room = parse4 (binaryReader none 0) s coord comp flag entries n room
+portedReader Five s coord comp flag entries n row room = parse5 s coord comp entries n row room
+portedReader Six s coord comp flag entries n row room = parse6 sides s coord comp flag entries n room
+portedReader Seven s coord comp flag entries n row room = parse7 sides s coord comp flag entries n room
 
 -- ---- from a list of numbers
 
 -- COMPONENTS, LENGTH, ROOM; then the mesh that the list makes
-unfoldable pub built : (List Float → Finished) → ℕ → List Float → ℕ → Outcome Float
-built finish n vs room =
+unfoldable pub built : (Source Float Float → ℕ → List Float → Finished Float) → ℕ → List Float → ℕ → Outcome Float
+built mesh n vs room =
     refuseIf (ltb mostComponents n) Components
     (refuseIf (ltb mostNumbers (length vs)) Length
-    (fitted (finish vs .count) (finish vs .numbers) room))
-
-unfoldable pub listed4 : FlagRule → ℕ → List Float → Finished
-listed4 rule n vs =
-    let tris : List Tri = rule (flags nan flagOf n vs) in
-    record { count = length tris; numbers = flat (corners (λ (i : ℕ). listedVertex (vertex4 nan n vs i))) tris }
-
-unfoldable pub listed5 : ℕ → ℕ → List Float → Finished
-listed5 row n vs =
-    record { count = length (lattice (length vs / (n + 2)) row); numbers = type5Mesh nan listedVertex n row vs }
-
-unfoldable pub listed67 : Table → ℕ → ℕ → List Float → Finished
-listed67 T own n vs =
-    record {
-      count = length (patches nan T flagOf own n vs);
-      numbers = patchMesh nan (λ (point : List Float). point) colourRow T flagOf own n vs;
-    }
+    (fittedMesh (mesh asListed n vs) room))
 
 abbrev pub build4 : FlagRule → List Float → ℕ → ℕ → Outcome Float
-build4 rule vs n room = built (listed4 rule n) n vs room
+build4 rule vs n room = built (type4Mesh rule) n vs room
 
 abbrev pub build5 : List Float → ℕ → ℕ → ℕ → Outcome Float
-build5 vs n row room = built (listed5 row n) n vs room
+build5 vs n row room = built (type5Mesh row) n vs room
 
 abbrev pub build6 : Table → List Float → ℕ → ℕ → Outcome Float
-build6 T vs n room = built (listed67 T 8 n) n vs room
+build6 T vs n room = built (patchMesh T 8) n vs room
 
 abbrev pub build7 : Table → List Float → ℕ → ℕ → Outcome Float
-build7 T vs n room = built (listed67 T 12 n) n vs room
+build7 T vs n room = built (patchMesh T 12) n vs room
