@@ -1,54 +1,66 @@
--- What each public function that places numbers gives a caller who knows that all is there: the next index, and what was written. Assumes nothing.
+-- What a caller who knows that all is there gets of each public function, in plain facts. Assumes nothing.
 use Prim.Native.Nat.{ℕ, _+_, _*_, _≤_}
-use mathlib.Core.Path.{_≡_}
-use mathlib.Core.List.{List}
-use lib.ListN.{length}
+use mathlib.Core.Path.{_≡_, refl}
+use mathlib.Core.Bool.{Bool, true, false}
+use mathlib.Core.List.{List, _++_}
+use native.Mathlib.Omega.{arith}
+use lib.ListN.{length, length-append}
 use lib.Ieee.{Float, nan}
 use Rattle.lists.specs.Lists.{part}
-use Rattle.lists.specs.Writing.{Written}
+use Rattle.lists.specs.Writing.{Written, Placed}
 use Rattle.lists.proofs.Pieces.{length-part}
-use Rattle.rows.specs.Rows.{Ranges, vertexAt, pointsAt, coloursAt, listedVertex, listedColours}
-use Rattle.rows.specs.Placing.{Placed, vertexFits, pointsFit, coloursFit, listedVertexFits, listedColoursFit, numbersFit, copyFits}
-use Rattle.rows.proofs.Fits.{vertex-fits, points-fit, colours-fit, listedVertex-fits, listedColours-fit, numbers-fit, copy-fits}
-use Rattle.rows.proofs.Lengths.{length-vertexAt, length-pointsAt, length-coloursAt, length-listedVertex, length-listedColours}
-use Rattle.rows.proofs.Placed.{placed-sized}
+use Rattle.lists.proofs.Placing.{placed-sized}
+use Rattle.answers.specs.Limits.{mostBytes}
+use Rattle.bits.proofs.Answers.{answer-number}
+use Rattle.decode.specs.Decode.{Ranges}
+use Rattle.colour.specs.Inner.Places.{pointAt, componentsAt, pointsAt, coloursAt}
+use Rattle.colour.proofs.Lengths.{length-componentsAt, length-pointsAt, length-coloursAt}
+use Rattle.rows.specs.declared.Layout.{Layout}
+use Rattle.rows.specs.declared.Run.{Run}
+use Rattle.rows.specs.declared.Vertex.{Vertex}
+use Rattle.rows.specs.Inner.Layouts.{numbersOf, flagIn, flagAt}
+use Rattle.rows.specs.Inner.Placing.{runPlaces, runNumbers, runFits, copyFits, NumbersThere, one, vertexOf, VertexPlaced}
+use Rattle.rows.proofs.Fits.{run-fits, copy-fits}
+use Rattle.rows.proofs.Standings.{standing-less}
 
-module _ (s : List ℕ) (R : Ranges) {entry exit : List Float} {at next : ℕ} where
-  pub vertex-written : (coord comp n p : ℕ) → Placed (vertexFits s coord comp n p at (length entry)) entry exit at (vertexAt s R coord comp n p) next
-      → 1 ≤ coord → coord ≤ 32 → 1 ≤ comp → comp ≤ 32 → n ≤ 32 → length s ≤ 16777216 → p + (2 * coord + n * comp) ≤ 8 * length s → at + (10 + n) ≤ length entry
-      → (next ≡ at + (10 + n)) × Written entry exit at (vertexAt s R coord comp n p) next
-  vertex-written coord comp n p d a b c e f g h i =
-      placed-sized (10 + n) d (vertex-fits s coord comp n p at (length entry) a b c e f g h i) (length-vertexAt s R coord comp n p) i
+module _ (L : Layout) (s : List ℕ) (vs : List Float) where
+  module _ (R : Ranges) {entry exit : List Float} {at : ℕ} where
+    pub run-written : {next : ℕ} (run : Run) (p : ℕ)
+        → Placed (runFits L s vs run p at (length entry)) entry exit at (pointsAt (numbersOf L s vs R) (L .coord) (run .points) p ++ coloursAt (numbersOf L s vs R) (L .comp) (L .n) (run .colours) (p + run .points * (2 * L .coord))) next
+        → NumbersThere L s vs p (runPlaces L run) → run .points ≤ 16 → run .colours ≤ 4 → at + runNumbers L run ≤ length entry
+        → (next ≡ at + runNumbers L run) × Written entry exit at (pointsAt (numbersOf L s vs R) (L .coord) (run .points) p ++ coloursAt (numbersOf L s vs R) (L .comp) (L .n) (run .colours) (p + run .points * (2 * L .coord))) next
+    run-written run p d w k c h =
+        placed-sized (runNumbers L run) d (run-fits L s vs run p at (length entry) w k c h)
+        (simp (length-append, length-pointsAt, length-coloursAt)) h
 
-  pub points-written : (coord k p : ℕ) → Placed (pointsFit s coord k p at (length entry)) entry exit at (pointsAt s R coord k p) next
-      → 1 ≤ coord → coord ≤ 32 → k ≤ 16 → length s ≤ 16777216 → p + k * (2 * coord) ≤ 8 * length s → at + 2 * k ≤ length entry
-      → (next ≡ at + 2 * k) × Written entry exit at (pointsAt s R coord k p) next
-  points-written coord k p d a b c e f g =
-      placed-sized (2 * k) d (points-fit s coord k p at (length entry) a b c e f g) (length-pointsAt s R coord k p) g
+    pub vertex-read : (p : ℕ) {v : Vertex}
+        → VertexPlaced (runFits L s vs one p at (length entry)) (pointAt (numbersOf L s vs R) (L .coord) p) (componentsAt (numbersOf L s vs R) (L .comp) (L .n) (p + 2 * L .coord)) entry exit at v
+        → NumbersThere L s vs p (2 * L .coord + L .n * L .comp) → at + (10 + L .n) ≤ length entry
+        → (v ≡ vertexOf (pointAt (numbersOf L s vs R) (L .coord) p) (componentsAt (numbersOf L s vs R) (L .comp) (L .n) (p + 2 * L .coord))) × Written entry exit (at + 10) (componentsAt (numbersOf L s vs R) (L .comp) (L .n) (p + 2 * L .coord)) (at + (10 + L .n))
+    vertex-read p d w h =
+        let n = length-componentsAt (numbersOf L s vs R) (L .comp) (L .n) (p + 2 * L .coord) in
+        let st : NumbersThere L s vs p (runPlaces L one) = standing-less L s vs p _ _ w (omega arith) in
+        let e = run-fits L s vs one p at (length entry) st (omega arith) (omega arith) (omega arith) in
+        (rw e at (d .is), record { held = rw e at (d .held); room = omega arith; after = omega arith })
 
-  pub colours-written : (comp n k p : ℕ) → Placed (coloursFit s comp n k p at (length entry)) entry exit at (coloursAt s R comp n k p) next
-      → 1 ≤ comp → comp ≤ 32 → n ≤ 32 → k ≤ 4 → length s ≤ 16777216 → p + k * (n * comp) ≤ 8 * length s → at + k * (8 + n) ≤ length entry
-      → (next ≡ at + k * (8 + n)) × Written entry exit at (coloursAt s R comp n k p) next
-  colours-written comp n k p d a b c e f g h =
-      placed-sized (k * (8 + n)) d (colours-fit s comp n k p at (length entry) a b c e f g h) (length-coloursAt s R comp n k p) h
+  module _ (p : ℕ) where
+    flag-listed : L .listed ≡ true → flagAt L s vs p ≡ flagIn L s vs p
+    unfolding flagAt flagIn
+    flag-listed e = rw e
 
-module _ (vs : List Float) {entry exit : List Float} {at next : ℕ} where
-  pub listedVertex-written : (n from : ℕ) → Placed (listedVertexFits vs n from at (length entry)) entry exit at (listedVertex vs n from) next
-      → n ≤ 32 → from + (2 + n) ≤ length vs → at + (10 + n) ≤ length entry
-      → (next ≡ at + (10 + n)) × Written entry exit at (listedVertex vs n from) next
-  listedVertex-written n from d a b c =
-      placed-sized (10 + n) d (listedVertex-fits vs n from at (length entry) a b c) (length-listedVertex vs n from) c
+    flag-in-bits : L .listed ≡ false → 1 ≤ L .flag → L .flag ≤ 32 → length s ≤ mostBytes → p + L .flag ≤ 8 * length s → flagAt L s vs p ≡ flagIn L s vs p
+    unfolding flagAt flagIn
+    flag-in-bits e a b c d = rw (e, ← (answer-number s p (L .flag) a b d (omega arith)))
 
-  pub listedColours-written : (n k from : ℕ) → Placed (listedColoursFit vs n k from at (length entry)) entry exit at (listedColours vs n k from) next
-      → n ≤ 32 → k ≤ 4 → from + k * n ≤ length vs → at + k * (8 + n) ≤ length entry
-      → (next ≡ at + k * (8 + n)) × Written entry exit at (listedColours vs n k from) next
-  listedColours-written n k from d a b c e =
-      placed-sized (k * (8 + n)) d (listedColours-fit vs n k from at (length entry) a b c e) (length-listedColours vs n k from) e
-
-  pub numbers-written : (from count : ℕ) → Placed (numbersFit vs from count at (length entry)) entry exit at (part nan vs from count) next
-      → from + count ≤ length vs → at + count ≤ length entry → (next ≡ at + count) × Written entry exit at (part nan vs from count) next
-  numbers-written from count d a b =
-      placed-sized count d (numbers-fit vs from count at (length entry) a b) (length-part nan vs from count) b
+    pub flag-there : (L .listed ≡ false → (1 ≤ L .flag) × (L .flag ≤ 32) × (length s ≤ mostBytes) × (p + L .flag ≤ 8 * length s))
+        → flagAt L s vs p ≡ flagIn L s vs p
+    flag-there h = by-kind (L .listed) refl
+      where
+        by-kind : (b : Bool) → L .listed ≡ b → flagAt L s vs p ≡ flagIn L s vs p
+        by-kind true e = flag-listed e
+        by-kind false e =
+            let f = h e in
+            flag-in-bits e (f .0) (f .1) (f .2) (f .3)
 
 pub copy-written : {entry exit : List Float} {at next : ℕ} (lead n from : ℕ)
     → Placed (copyFits lead n from at (length entry)) entry exit at (part nan entry from (lead + n)) next

@@ -1,18 +1,19 @@
 -- What a test that all is there says, and the plain facts that make it hold. Assumes nothing.
 use Prim.Native.Nat.{ℕ, _+_, _-_, _*_, _≤_}
-use mathlib.Core.Path.{_≡_, sym, _∙_}
+use mathlib.Core.Path.{_≡_, refl, sym, _∙_}
 use mathlib.Core.Logic.{_↔_}
-use mathlib.Core.Bool.{Bool, true, and-eq-true-iff}
+use mathlib.Core.Bool.{Bool, true, false, not, and-eq-true-iff}
 use mathlib.Core.List.{List}
-use native.Mathlib.Nat.{lt-of-not-le}
+use native.Mathlib.Nat.{lt-of-not-le, mul-le-mul}
 use native.Mathlib.Decide.{decLe}
 use native.Mathlib.Omega.{arith}
 use lib.ListN.{length}
-use lib.Dec.{leb}
+use lib.Dec.{leb, eqb}
 use lib.Ieee.{Float}
-use borrow.Author.Tests.{leb-true, le-leb, lt-leb}
-use Rattle.bits.specs.Reading.{readable}
-use Rattle.rows.specs.Placing.{fair, vertexFits, pointsFit, coloursFit, listedVertexFits, listedColoursFit, numbersFit, copyFits}
+use borrow.Author.Tests.{not-false, leb-true, le-leb, lt-leb, eqb-true, eq-eqb}
+use Rattle.rows.specs.declared.Layout.{Layout}
+use Rattle.rows.specs.declared.Run.{Run}
+use Rattle.rows.specs.Inner.Placing.{fair, there, runPlaces, runNumbers, runFits, copyFits, NumbersThere}
 
 -- the test without a sum
 pub leb-sub : (from size len : ℕ) → from ≤ len → leb size (len - from) ≡ leb (from + size) len
@@ -27,72 +28,84 @@ leb-sub from size len h = by-sum (decLe (from + size) len)
 leb-iff : (a b : ℕ) → (leb a b ≡ true) ↔ (a ≤ b)
 leb-iff a b = (leb-true a b, le-leb a b)
 
-pub readable-there : (w : ℕ) → {r : Bool} → r ≡ readable w → r ≡ true → 1 ≤ w × w ≤ 32
-readable-there w e t = simp (and-eq-true-iff, leb-iff) at (sym e ∙ t)
+eqb-iff : (a b : ℕ) → (eqb a b ≡ true) ↔ (a ≡ b)
+eqb-iff a b = (eqb-true a b, eq-eqb a b)
 
-pub fair-there : (coord comp n : ℕ) → {r : Bool} → r ≡ fair coord comp n → r ≡ true → (1 ≤ coord × coord ≤ 32) × ((1 ≤ comp × comp ≤ 32) × n ≤ 32)
-fair-there coord comp n e t = simp (and-eq-true-iff, leb-iff) at (sym e ∙ t)
+-- ---- a layout
 
-module _ (s : List ℕ) (coord comp n p at room : ℕ) where
-  pub vertex-fits : 1 ≤ coord → coord ≤ 32 → 1 ≤ comp → comp ≤ 32 → n ≤ 32 → length s ≤ 16777216
-      → p + (2 * coord + n * comp) ≤ 8 * length s → at + (10 + n) ≤ room → vertexFits s coord comp n p at room ≡ true
-  unfolding vertexFits
-  vertex-fits a b c d e f g h = simp (and-eq-true-iff, leb-iff) (((a, b), ((c, d), e)), ((f, g), h))
+module _ (L : Layout) where
+  fair-list : L .listed ≡ true → fair L ≡ true → L .n ≤ 32 × (L .coord ≡ 1 × L .comp ≡ 1)
+  fair-list e t = simp (and-eq-true-iff, leb-iff, eqb-iff) at (rw e at t)
 
-  pub vertex-there : {r : Bool} → r ≡ vertexFits s coord comp n p at room → r ≡ true
-      → ((1 ≤ coord × coord ≤ 32) × ((1 ≤ comp × comp ≤ 32) × n ≤ 32)) × ((length s ≤ 16777216 × p + (2 * coord + n * comp) ≤ 8 * length s) × at + (10 + n) ≤ room)
-  unfolding vertexFits
-  vertex-there e t = simp (and-eq-true-iff, leb-iff) at (sym e ∙ t)
+  fair-bits : L .listed ≡ false → fair L ≡ true → L .n ≤ 32 × ((1 ≤ L .coord × L .coord ≤ 32) × (1 ≤ L .comp × L .comp ≤ 32))
+  fair-bits e t = simp (and-eq-true-iff, leb-iff) at (rw e at t)
 
-module _ (s : List ℕ) (coord k p at room : ℕ) where
-  pub points-fit : 1 ≤ coord → coord ≤ 32 → k ≤ 16 → length s ≤ 16777216 → p + k * (2 * coord) ≤ 8 * length s → at + 2 * k ≤ room
-      → pointsFit s coord k p at room ≡ true
-  unfolding pointsFit
-  points-fit a b c d e f = simp (and-eq-true-iff, leb-iff) ((a, b), (c, ((d, e), f)))
+  -- no count or width is large
+  pub fair-small : fair L ≡ true → (L .n ≤ 32) × (L .coord ≤ 32) × (L .comp ≤ 32)
+  fair-small t = by-kind (L .listed) refl
+    where
+      by-kind : (b : Bool) → L .listed ≡ b → (L .n ≤ 32) × (L .coord ≤ 32) × (L .comp ≤ 32)
+      by-kind true e =
+          let f = fair-list e t in
+          (f .0, omega arith, omega arith)
+      by-kind false e =
+          let f = fair-bits e t in
+          (f .0, f .1 .0 .1, f .1 .1 .1)
 
-  pub points-there : {r : Bool} → r ≡ pointsFit s coord k p at room → r ≡ true
-      → (1 ≤ coord × coord ≤ 32) × (k ≤ 16 × ((length s ≤ 16777216 × p + k * (2 * coord) ≤ 8 * length s) × at + 2 * k ≤ room))
-  unfolding pointsFit
-  points-there e t = simp (and-eq-true-iff, leb-iff) at (sym e ∙ t)
+  -- so no product is, by the answer r of a test
+  pub run-small : {r : Bool} (run : Run) → r ≡ fair L → not r ≡ false → run .points ≤ 16 → run .colours ≤ 4
+      → (2 * L .coord ≤ 64) × (8 + L .n ≤ 40) × (L .n * L .comp ≤ 1024) × (run .points * (2 * L .coord) ≤ 1024) × (run .colours * (L .n * L .comp) ≤ 4096) × (run .colours * (8 + L .n) ≤ 160)
+  run-small {r} run e t k c =
+      let f = fair-small (sym e ∙ not-false r t) in
+      let d : 2 * L .coord ≤ 64 = omega arith in
+      let g : 8 + L .n ≤ 40 = omega arith in
+      let m : L .n * L .comp ≤ 1024 = mul-le-mul (f .0) (f .2) in
+      (d, g, m, mul-le-mul k d, mul-le-mul c m, mul-le-mul c g)
 
-module _ (s : List ℕ) (comp n k p at room : ℕ) where
-  pub colours-fit : 1 ≤ comp → comp ≤ 32 → n ≤ 32 → k ≤ 4 → length s ≤ 16777216 → p + k * (n * comp) ≤ 8 * length s → at + k * (8 + n) ≤ room
-      → coloursFit s comp n k p at room ≡ true
-  unfolding coloursFit
-  colours-fit a b c d e f g = simp (and-eq-true-iff, leb-iff) ((a, b), (c, (d, ((e, f), g))))
+  module _ (s : List ℕ) (vs : List Float) (p size : ℕ) where
+    pub fits-standing : fair L ≡ true → there L s vs p size ≡ true → NumbersThere L s vs p size
+    fits-standing t h =
+        record {
+          n-few = fair-small t .0;
+          in-list = λ e.
+              let f = fair-list e t in
+              (f .1 .0, f .1 .1, leb-true _ _ (rw e at h));
+          in-bits = λ e.
+              let f = fair-bits e t in
+              let b : length s ≤ 16777216 × p + size ≤ 8 * length s = simp (and-eq-true-iff, leb-iff) at (rw e at h) in
+              (f .1 .0 .0, f .1 .0 .1, f .1 .1 .0, f .1 .1 .1, b .0, b .1);
+        }
 
-  pub colours-there : {r : Bool} → r ≡ coloursFit s comp n k p at room → r ≡ true
-      → (1 ≤ comp × comp ≤ 32) × (n ≤ 32 × (k ≤ 4 × ((length s ≤ 16777216 × p + k * (n * comp) ≤ 8 * length s) × at + k * (8 + n) ≤ room)))
-  unfolding coloursFit
-  colours-there e t = simp (and-eq-true-iff, leb-iff) at (sym e ∙ t)
+    pub standing-fits : NumbersThere L s vs p size → fair L ≡ true × there L s vs p size ≡ true
+    standing-fits w = by-kind (L .listed) refl
+      where
+        by-kind : (b : Bool) → L .listed ≡ b → fair L ≡ true × there L s vs p size ≡ true
+        by-kind true e =
+            let f = w .in-list e in
+            (rw e (simp (and-eq-true-iff, leb-iff, eqb-iff) (w .n-few, (f .0, f .1))), rw e (le-leb _ _ (f .2)))
+        by-kind false e =
+            let f = w .in-bits e in
+            (rw e (simp (and-eq-true-iff, leb-iff) (w .n-few, ((f .0, f .1), (f .2, f .3)))), rw e (simp (and-eq-true-iff, leb-iff) (f .4, f .5)))
 
-module _ (vs : List Float) (n from at room : ℕ) where
-  pub listedVertex-fits : n ≤ 32 → from + (2 + n) ≤ length vs → at + (10 + n) ≤ room → listedVertexFits vs n from at room ≡ true
-  unfolding listedVertexFits
-  listedVertex-fits a b c = simp (and-eq-true-iff, leb-iff) (a, (b, c))
+-- ---- points and colours
 
-  pub listedVertex-there : {r : Bool} → r ≡ listedVertexFits vs n from at room → r ≡ true → n ≤ 32 × (from + (2 + n) ≤ length vs × at + (10 + n) ≤ room)
-  unfolding listedVertexFits
-  listedVertex-there e t = simp (and-eq-true-iff, leb-iff) at (sym e ∙ t)
+module _ (L : Layout) (s : List ℕ) (vs : List Float) (run : Run) (p at room : ℕ) where
+  pub run-fits : NumbersThere L s vs p (runPlaces L run) → run .points ≤ 16 → run .colours ≤ 4 → at + runNumbers L run ≤ room
+      → runFits L s vs run p at room ≡ true
+  unfolding runFits
+  run-fits w k c h =
+      let f = standing-fits L s vs p (runPlaces L run) w in
+      rw (f .0, f .1, le-leb _ _ k, le-leb _ _ c, le-leb _ _ h)
 
-module _ (vs : List Float) (n k from at room : ℕ) where
-  pub listedColours-fit : n ≤ 32 → k ≤ 4 → from + k * n ≤ length vs → at + k * (8 + n) ≤ room → listedColoursFit vs n k from at room ≡ true
-  unfolding listedColoursFit
-  listedColours-fit a b c d = simp (and-eq-true-iff, leb-iff) (a, (b, (c, d)))
+  pub run-there : {r : Bool} → r ≡ runFits L s vs run p at room → r ≡ true
+      → NumbersThere L s vs p (runPlaces L run) × (run .points ≤ 16) × (run .colours ≤ 4) × (at + runNumbers L run ≤ room)
+  unfolding runFits
+  run-there e t =
+      let f : fair L ≡ true × (run .points ≤ 16 × (run .colours ≤ 4 × (there L s vs p (runPlaces L run) ≡ true × at + runNumbers L run ≤ room))) =
+      simp (and-eq-true-iff, leb-iff) at (sym e ∙ t) in
+      (fits-standing L s vs p (runPlaces L run) (f .0) (f .1 .1 .1 .0), f .1 .0, f .1 .1 .0, f .1 .1 .1 .1)
 
-  pub listedColours-there : {r : Bool} → r ≡ listedColoursFit vs n k from at room → r ≡ true
-      → n ≤ 32 × (k ≤ 4 × (from + k * n ≤ length vs × at + k * (8 + n) ≤ room))
-  unfolding listedColoursFit
-  listedColours-there e t = simp (and-eq-true-iff, leb-iff) at (sym e ∙ t)
-
-module _ (vs : List Float) (from count at room : ℕ) where
-  pub numbers-fit : from + count ≤ length vs → at + count ≤ room → numbersFit vs from count at room ≡ true
-  unfolding numbersFit
-  numbers-fit a b = simp (and-eq-true-iff, leb-iff) (a, b)
-
-  pub numbers-there : {r : Bool} → r ≡ numbersFit vs from count at room → r ≡ true → from + count ≤ length vs × at + count ≤ room
-  unfolding numbersFit
-  numbers-there e t = simp (and-eq-true-iff, leb-iff) at (sym e ∙ t)
+-- ---- copies
 
 module _ (lead n from at room : ℕ) where
   pub copy-fits : n ≤ 32 → from + (lead + n) ≤ at → at + (lead + n) ≤ room → copyFits lead n from at room ≡ true

@@ -1,6 +1,6 @@
 pub mod Fits
-pub mod Lengths
-pub mod Placed
-pub mod Numbers
-pub mod Listed
+pub mod Held
+pub mod Sources
+pub mod Standings
+pub mod Vertices
 pub mod Callers

@@ -1,130 +1,136 @@
 // A record's numbers, from bits or from a list, decoded and written as rows into a lent output.
-// Each function that places numbers tests first that all it needs is there; else it answers at and changes nothing.
-ghost use Prim.Native.Nat.{_+_};
+// Each public function tests first that all it needs is there; else it changes nothing.
+ghost use mathlib.Core.Path.{_≡_};
+ghost use Prim.Native.Nat.{_+_, _*_};
+ghost use mathlib.Core.List.{_++_};
 ghost use lib.ListN.{length};
+ghost use lib.Dec.{leb};
 ghost use lib.Ieee.{nan};
 ghost use Rattle.lists.specs.Lists.{part};
-ghost use Rattle.rows.specs.Rows.{vertexAt, pointsAt, coloursAt, listedVertex, listedColours};
-ghost use Rattle.rows.specs.Placing.{Placed, listed, Ranged, vertexFits, pointsFit, coloursFit, listedVertexFits, listedColoursFit, numbersFit, copyFits};
+ghost use Rattle.lists.specs.Writing.{Placed};
+ghost use Rattle.colour.specs.Inner.Places.{pointAt, componentsAt, pointsAt, coloursAt};
+ghost use Rattle.rows.specs.Inner.Layouts.{numbersOf, flagAt, heldRanges, rangeList};
+ghost use Rattle.rows.specs.Inner.Placing.{runFits, copyFits, one, tenNumbers, VertexPlaced};
 use bits::BitPos;
+use bits::BitRead;
+use colour::DeviceColor;
 
 mod fitting;
-mod listing;
+mod numbers;
 mod ranges;
-mod reading;
 mod writing;
 
-// ---- from bits
-
-// The ranges of all kinds, worked out once: kind 0 is x, kind 1 is y, kind 2 + i is component i.
-pub fn fill_ranges(
-    decode: &[f64],
-    coord: usize,
-    comp: usize,
-    mins: &mut [f64; 34],
-    scales: &mut [f64; 34],
-)
-    ensures { λ _. ⌜ Ranged (now (decode .entry)) coord comp (now (mins .exit)) (now (scales .exit)) ⌝ }
-{
-    ranges::fill(decode, coord, comp, mins, scales);
+// How the numbers of a record stand. In bits a flag, a coordinate and a component have so many; in a list each number takes one place. A colour has n
+// components.
+pub struct Layout {
+    pub listed: bool,
+    pub flag: usize,
+    pub coord: usize,
+    pub comp: usize,
+    pub n: usize,
 }
 
-// The row of the vertex whose coordinates begin at a place.
-pub fn place_vertex(
+// Where a number begins: a bit, or an index of a list.
+pub struct Place(pub usize);
+
+// So many points, and after them so many colours.
+pub struct Run {
+    pub points: usize,
+    pub colours: usize,
+}
+
+// A vertex goes by value. Its components stand beside it, in the output that gets its row.
+pub struct Vertex {
+    pub x: f64,
+    pub y: f64,
+    pub colour: DeviceColor,
+}
+
+// The ranges of all kinds, worked out once: the least number and the step of x, of y, and of each component.
+pub fn fill_ranges(decode: &[f64], coord: usize, comp: usize, ranges: &mut [f64; 68])
+    ensures { λ _. ⌜ now (ranges .exit) ≡ rangeList (now (decode .entry)) coord comp ⌝ }
+{
+    ranges::fill(decode, coord, comp, ranges);
+}
+
+// The flag at a place; 0 where there is none.
+pub fn flag_at(data: &[u8], values: &[f64], layout: Layout, place: Place) -> u32
+    ensures { λ r. ⌜ r ≡ flagAt layout (now («data» .entry)) (now (values .entry)) (place .0) ⌝ }
+{
+    let p = place.0;
+    if layout.listed {
+        if values.len() <= p {
+            return 0;
+        }
+        return decode::flag_of(values[p]);
+    }
+    let BitRead::Number(flag, _) = bits::read(data, BitPos(p), layout.flag) else {
+        return 0;
+    };
+    flag
+}
+
+// Reads the vertex whose coordinates begin at a place. Its components go to their places beside the row that begins at index at.
+pub fn read_vertex(
     data: &[u8],
-    coord: usize,
-    comp: usize,
-    n: usize,
-    mins: &[f64; 34],
-    scales: &[f64; 34],
-    place: BitPos,
-    out: &mut [f64],
-    at: usize,
-) -> usize
-    ensures { λ r. ⌜ Placed (vertexFits (now («data» .entry)) coord comp n (place .0) at (length (now (out .entry)))) (now (out .entry)) (now (out .exit)) at (vertexAt (now («data» .entry)) (listed (now (mins .entry)) (now (scales .entry))) coord comp n (place .0)) r ⌝ }
-{
-    if fitting::vertex_fits(data, coord, comp, n, place, at, out.len()) {
-        return reading::read_vertex(data, coord, comp, n, mins, scales, place, out, at);
-    }
-    at
-}
-
-// The k points that begin at a place, at most 16.
-pub fn place_points(
-    data: &[u8],
-    coord: usize,
-    mins: &[f64; 34],
-    scales: &[f64; 34],
-    k: usize,
-    place: BitPos,
-    out: &mut [f64],
-    at: usize,
-) -> usize
-    ensures { λ r. ⌜ Placed (pointsFit (now («data» .entry)) coord k (place .0) at (length (now (out .entry)))) (now (out .entry)) (now (out .exit)) at (pointsAt (now («data» .entry)) (listed (now (mins .entry)) (now (scales .entry))) coord k (place .0)) r ⌝ }
-{
-    if fitting::points_fit(data, coord, k, place, at, out.len()) {
-        return reading::read_points(data, coord, mins, scales, k, place, out, at);
-    }
-    at
-}
-
-// The rows of the k colours that begin at a place, at most four.
-pub fn place_colours(
-    data: &[u8],
-    comp: usize,
-    n: usize,
-    mins: &[f64; 34],
-    scales: &[f64; 34],
-    k: usize,
-    place: BitPos,
-    out: &mut [f64],
-    at: usize,
-) -> usize
-    ensures { λ r. ⌜ Placed (coloursFit (now («data» .entry)) comp n k (place .0) at (length (now (out .entry)))) (now (out .entry)) (now (out .exit)) at (coloursAt (now («data» .entry)) (listed (now (mins .entry)) (now (scales .entry))) comp n k (place .0)) r ⌝ }
-{
-    if fitting::colours_fit(data, comp, n, k, place, at, out.len()) {
-        return reading::read_colours(data, comp, n, mins, scales, k, place, out, at);
-    }
-    at
-}
-
-// ---- from a list of numbers
-
-// The row of the vertex whose coordinates begin at an index.
-pub fn list_vertex(values: &[f64], n: usize, from: usize, out: &mut [f64], at: usize) -> usize
-    ensures { λ r. ⌜ Placed (listedVertexFits (now (values .entry)) n from at (length (now (out .entry)))) (now (out .entry)) (now (out .exit)) at (listedVertex (now (values .entry)) n from) r ⌝ }
-{
-    if fitting::listed_vertex_fits(values, n, from, at, out.len()) {
-        return listing::copy_vertex(values, n, from, out, at);
-    }
-    at
-}
-
-// The rows of the k colours from an index on, at most four.
-pub fn list_colours(
     values: &[f64],
-    n: usize,
-    k: usize,
-    from: usize,
+    layout: Layout,
+    ranges: &[f64; 68],
+    place: Place,
+    out: &mut [f64],
+    at: usize,
+) -> Vertex
+    ensures { λ r. ⌜ VertexPlaced (runFits layout (now («data» .entry)) (now (values .entry)) one (place .0) at (length (now (out .entry)))) (pointAt (numbersOf layout (now («data» .entry)) (now (values .entry)) (heldRanges (now (ranges .entry)))) (layout .coord) (place .0)) (componentsAt (numbersOf layout (now («data» .entry)) (now (values .entry)) (heldRanges (now (ranges .entry)))) (layout .comp) (layout .n) (place .0 + 2 * layout .coord)) (now (out .entry)) (now (out .exit)) at r ⌝ }
+{
+    let run = Run {
+        points: 1,
+        colours: 1,
+    };
+    if !fitting::run_fits(data, values, layout, run, place, at, out.len()) {
+        return Vertex {
+            x: 0.0,
+            y: 0.0,
+            colour: colour::components_to_color(&values[0..0]),
+        };
+    }
+    let p = place.0;
+    if layout.listed {
+        return numbers::list_vertex(values, layout.n, p, out, at);
+    }
+    numbers::read_vertex(data, layout, ranges, BitPos(p), out, at)
+}
+
+// The ten numbers of a vertex before its components: x, y and those of its colour.
+pub fn write_vertex(vertex: Vertex, out: &mut [f64], at: usize) -> usize
+    ensures { λ r. ⌜ Placed (leb (at + 10) (length (now (out .entry)))) (now (out .entry)) (now (out .exit)) at (tenNumbers vertex) r ⌝ }
+{
+    if !fitting::has_room(at, 10, out.len()) {
+        return at;
+    }
+    let colour = vertex.colour;
+    let p = writing::write_two(vertex.x, vertex.y, out, at);
+    writing::write_eight(colour, out, p)
+}
+
+// The points and the rows of the colours that begin at a place.
+pub fn place_run(
+    data: &[u8],
+    values: &[f64],
+    layout: Layout,
+    ranges: &[f64; 68],
+    run: Run,
+    place: Place,
     out: &mut [f64],
     at: usize,
 ) -> usize
-    ensures { λ r. ⌜ Placed (listedColoursFit (now (values .entry)) n k from at (length (now (out .entry)))) (now (out .entry)) (now (out .exit)) at (listedColours (now (values .entry)) n k from) r ⌝ }
+    ensures { λ r. ⌜ Placed (runFits layout (now («data» .entry)) (now (values .entry)) run (place .0) at (length (now (out .entry)))) (now (out .entry)) (now (out .exit)) at (pointsAt (numbersOf layout (now («data» .entry)) (now (values .entry)) (heldRanges (now (ranges .entry)))) (layout .coord) (run .points) (place .0) ++ coloursAt (numbersOf layout (now («data» .entry)) (now (values .entry)) (heldRanges (now (ranges .entry)))) (layout .comp) (layout .n) (run .colours) (place .0 + run .points * (2 * layout .coord))) r ⌝ }
 {
-    if fitting::listed_colours_fit(values, n, k, from, at, out.len()) {
-        return listing::copy_colours(values, n, k, from, out, at);
+    if !fitting::run_fits(data, values, layout, run, place, at, out.len()) {
+        return at;
     }
-    at
-}
-
-// Numbers of a list, as they are.
-pub fn copy_numbers(values: &[f64], from: usize, count: usize, out: &mut [f64], at: usize) -> usize
-    ensures { λ r. ⌜ Placed (numbersFit (now (values .entry)) from count at (length (now (out .entry)))) (now (out .entry)) (now (out .exit)) at (part nan (now (values .entry)) from count) r ⌝ }
-{
-    if fitting::numbers_fit(values, from, count, at, out.len()) {
-        return writing::write_part(values, from, count, out, at);
-    }
-    at
+    let rest = Place(place.0 + run.points * (2 * layout.coord));
+    let p = numbers::write_points(data, values, layout, ranges, run.points, place, out, at);
+    numbers::write_colours(data, values, layout, ranges, run.colours, rest, out, p)
 }
 
 // ---- what stands in out already, before index at
@@ -133,28 +139,20 @@ pub fn copy_numbers(values: &[f64], from: usize, count: usize, out: &mut [f64], 
 pub fn copy_point(out: &mut [f64], from: usize, at: usize) -> usize
     ensures { λ r. ⌜ Placed (copyFits 2 0 from at (length (now (out .entry)))) (now (out .entry)) (now (out .exit)) at (part nan (now (out .entry)) from 2) r ⌝ }
 {
-    if fitting::copy_fits(2, 0, from, at, out.len()) {
-        return writing::copy_point(out, from, at);
+    if !fitting::copy_fits(2, 0, from, at, out.len()) {
+        return at;
     }
-    at
+    writing::copy_part(out, from, 2, at)
 }
 
 // The row of a colour.
 pub fn copy_colour(out: &mut [f64], from: usize, n: usize, at: usize) -> usize
     ensures { λ r. ⌜ Placed (copyFits 8 n from at (length (now (out .entry)))) (now (out .entry)) (now (out .exit)) at (part nan (now (out .entry)) from (8 + n)) r ⌝ }
 {
-    if fitting::copy_fits(8, n, from, at, out.len()) {
-        return writing::copy_colour(out, from, n, at);
+    if !fitting::copy_fits(8, n, from, at, out.len()) {
+        return at;
     }
-    at
-}
-
-// The row of a vertex.
-pub fn copy_row(out: &mut [f64], from: usize, n: usize, at: usize) -> usize
-    ensures { λ r. ⌜ Placed (copyFits 10 n from at (length (now (out .entry)))) (now (out .entry)) (now (out .exit)) at (part nan (now (out .entry)) from (10 + n)) r ⌝ }
-{
-    if fitting::copy_fits(10, n, from, at, out.len()) {
-        return writing::copy_row(out, from, n, at);
-    }
-    at
+    let p = writing::copy_four(out, from, at);
+    let q = writing::copy_four(out, from + 4, p);
+    writing::copy_part(out, from + 8, n, q)
 }

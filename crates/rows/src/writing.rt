@@ -6,35 +6,69 @@ ghost use lib.ListN.{length};
 ghost use lib.Ieee.{nan};
 ghost use Rattle.lists.specs.Lists.{part};
 ghost use Rattle.lists.specs.Writing.{Written};
-ghost use Rattle.colour.specs.Colour.{colourNumbers};
+ghost use Rattle.colour.specs.Colour.{colourNumbers, inkNumbers};
 use colour::DeviceColor;
+use colour::Inks;
 
-// A vertex goes by value. Its components stay in the list or the output that holds them.
-pub struct Vertex {
-    pub x: f64,
-    pub y: f64,
-    pub colour: DeviceColor,
-}
-
-pub fn write_point(x: f64, y: f64, out: &mut [f64], at: usize) -> usize
+pub fn write_two(a: f64, b: f64, out: &mut [f64], at: usize) -> usize
     requires { ⌜ at + 2 ≤ length (now out) ⌝ }
     ensures { λ r. ⌜ r ≡ at + 2 ⌝ }
-    ensures { λ r. ⌜ Written (now (out .entry)) (now (out .exit)) at (x ∷ y ∷ []) r ⌝ }
+    ensures { λ r. ⌜ Written (now (out .entry)) (now (out .exit)) at (a ∷ b ∷ []) r ⌝ }
 {
-    out[at] = x;
-    out[at + 1] = y;
+    out[at] = a;
+    out[at + 1] = b;
     at + 2
 }
 
-// x, y and the eight numbers of the colour.
-pub fn write_vertex(vertex: Vertex, out: &mut [f64], at: usize) -> usize
-    requires { ⌜ at + 10 ≤ length (now out) ⌝ }
-    ensures { λ r. ⌜ r ≡ at + 10 ⌝ }
-    ensures { λ r. ⌜ Written (now (out .entry)) (now (out .exit)) at (vertex .x ∷ vertex .y ∷ colourNumbers (vertex .colour)) r ⌝ }
+fn write_four(a: f64, b: f64, c: f64, d: f64, out: &mut [f64], at: usize) -> usize
+    requires { ⌜ at + 4 ≤ length (now out) ⌝ }
+    ensures { λ r. ⌜ r ≡ at + 4 ⌝ }
+    ensures { λ r. ⌜ Written (now (out .entry)) (now (out .exit)) at (a ∷ b ∷ c ∷ d ∷ []) r ⌝ }
 {
-    let p = write_point(vertex.x, vertex.y, out, at);
-    let colour = vertex.colour;
-    colour::write_numbers(colour, out, p)
+    let p = write_two(a, b, out, at);
+    write_two(c, d, out, p)
+}
+
+// The five numbers that tell a colour's inks.
+struct InkNumbers {
+    mark: f64,
+    c: f64,
+    m: f64,
+    y: f64,
+    k: f64,
+}
+
+fn ink_numbers(inks: Inks) -> InkNumbers
+    ensures { λ r. ⌜ r .mark ∷ r .c ∷ r .m ∷ r .y ∷ r .k ∷ [] ≡ inkNumbers inks ⌝ }
+{
+    match inks {
+        Inks::None => InkNumbers {
+            mark: 0.0,
+            c: 0.0,
+            m: 0.0,
+            y: 0.0,
+            k: 0.0,
+        },
+        Inks::Cmyk(c, m, y, k) => InkNumbers {
+            mark: 1.0,
+            c,
+            m,
+            y,
+            k,
+        },
+    }
+}
+
+// r, g, b, mark, c, m, y, k.
+pub fn write_eight(colour: DeviceColor, out: &mut [f64], at: usize) -> usize
+    requires { ⌜ at + 8 ≤ length (now out) ⌝ }
+    ensures { λ r. ⌜ r ≡ at + 8 ⌝ }
+    ensures { λ r. ⌜ Written (now (out .entry)) (now (out .exit)) at (colourNumbers colour) r ⌝ }
+{
+    let inks = colour.inks;
+    let five = ink_numbers(inks);
+    let p = write_four(colour.r, colour.g, colour.b, five.mark, out, at);
+    write_four(five.c, five.m, five.y, five.k, out, p)
 }
 
 // Numbers of a list, two at a time.
@@ -58,7 +92,7 @@ pub fn write_part(values: &[f64], from: usize, n: usize, out: &mut [f64], at: us
 }
 
 // Numbers that stand in out already, two at a time.
-fn copy_part(out: &mut [f64], from: usize, n: usize, at: usize) -> usize
+pub fn copy_part(out: &mut [f64], from: usize, n: usize, at: usize) -> usize
     requires { ⌜ (from + n ≤ at) × (at + n ≤ length (now out)) ⌝ }
     ensures { λ r. ⌜ r ≡ at + n ⌝ }
     ensures { λ r. ⌜ Written (now (out .entry)) (now (out .exit)) at (part nan (now (out .entry)) from n) r ⌝ }
@@ -77,17 +111,9 @@ fn copy_part(out: &mut [f64], from: usize, n: usize, at: usize) -> usize
     at + n
 }
 
-pub fn copy_point(out: &mut [f64], from: usize, at: usize) -> usize
-    requires { ⌜ (from + 2 ≤ at) × (at + 2 ≤ length (now out)) ⌝ }
-    ensures { λ r. ⌜ r ≡ at + 2 ⌝ }
-    ensures { λ r. ⌜ Written (now (out .entry)) (now (out .exit)) at (part nan (now (out .entry)) from 2) r ⌝ }
-{
-    copy_part(out, from, 2, at)
-}
-
 // Half of a colour's eight numbers. A machine that has just stored two numbers together hands them on together, and single ones alone; so they are
 // taken here as they are stored.
-fn copy_four(out: &mut [f64], from: usize, at: usize) -> usize
+pub fn copy_four(out: &mut [f64], from: usize, at: usize) -> usize
     requires { ⌜ (from + 4 ≤ at) × (at + 4 ≤ length (now out)) ⌝ }
     ensures { λ r. ⌜ r ≡ at + 4 ⌝ }
     ensures { λ r. ⌜ Written (now (out .entry)) (now (out .exit)) at (part nan (now (out .entry)) from 4) r ⌝ }
@@ -95,25 +121,4 @@ fn copy_four(out: &mut [f64], from: usize, at: usize) -> usize
     let p = copy_part(out, from, 2, at);
     let q = copy_part(out, from + 2, 1, p);
     copy_part(out, from + 3, 1, q)
-}
-
-// A colour's eight numbers and its n components.
-pub fn copy_colour(out: &mut [f64], from: usize, n: usize, at: usize) -> usize
-    requires { ⌜ (from + (8 + n) ≤ at) × (at + (8 + n) ≤ length (now out)) ⌝ }
-    ensures { λ r. ⌜ r ≡ at + (8 + n) ⌝ }
-    ensures { λ r. ⌜ Written (now (out .entry)) (now (out .exit)) at (part nan (now (out .entry)) from (8 + n)) r ⌝ }
-{
-    let p = copy_four(out, from, at);
-    let q = copy_four(out, from + 4, p);
-    copy_part(out, from + 8, n, q)
-}
-
-// A vertex: x, y and its colour.
-pub fn copy_row(out: &mut [f64], from: usize, n: usize, at: usize) -> usize
-    requires { ⌜ (from + (10 + n) ≤ at) × (at + (10 + n) ≤ length (now out)) ⌝ }
-    ensures { λ r. ⌜ r ≡ at + (10 + n) ⌝ }
-    ensures { λ r. ⌜ Written (now (out .entry)) (now (out .exit)) at (part nan (now (out .entry)) from (10 + n)) r ⌝ }
-{
-    let p = copy_point(out, from, at);
-    copy_colour(out, from + 2, n, p)
 }
