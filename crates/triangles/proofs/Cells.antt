@@ -14,16 +14,17 @@ use lib.Ieee.{Float, nan}
 use Rattle.lists.specs.Lists.{joined, part, flat}
 use Rattle.lists.specs.Writing.{put, Written}
 use Rattle.lists.proofs.Pieces.{length-joined, joined-same, part-middle, flat-joined}
+use Rattle.lists.proofs.Parts.{written-here}
 use Rattle.lists.proofs.Writing.{written-length, written-start, written-more, written-then, part-before}
 use Rattle.rules.specs.Triangles.{corners}
 use Rattle.rules.specs.Lattice.{cell, lattice}
 use Rattle.rules.proofs.Lattice.{lattice-count, lattice-none}
 use Rattle.meshes.proofs.Parts.{part-first, part-second, part-of-piece}
-use Rattle.triangles.specs.Sources.{Stands}
-use Rattle.triangles.specs.Cells.{cellNumbers, cellsNumbers, Above}
+use Rattle.triangles.specs.Inner.Vertices.{RowStands}
+use Rattle.triangles.specs.Inner.Cells.{cellNumbers, cellsNumbers, Above}
 
 -- a row that stands before the place that was written still stands
-pub stands-on : {o o′ : List Float} {from size at p : ℕ} {xs row : List Float} → Stands o from size at row → Written o o′ at xs p → Stands o′ from size p row
+pub stands-on : {o o′ : List Float} {from size at p : ℕ} {xs row : List Float} → RowStands o from size at row → Written o o′ at xs p → RowStands o′ from size p row
 stands-on {o} {o′} {from} {size} {at} {p} {xs} {row} h w =
     record { before = omega (arith, h .before, w .after); held = part-before nan from size w (h .before) ∙ h .held }
 
@@ -35,7 +36,7 @@ band-enough size {row} h =
 
 -- an index below the output's length is where the row stands
 pub stands-or : (there : Bool) (x nowhere : ℕ) {o : List Float} {from size at : ℕ} {row : List Float} → from ≡ cond there x nowhere → length o ≡ nowhere
-    → (there ≡ true → Stands o x size at row) → from < length o → Stands o from size at row
+    → (there ≡ true → RowStands o x size at row) → from < length o → RowStands o from size at row
 stands-or true x nowhere e n h b = rw e (h refl)
 stands-or false x nowhere e n h b = absurd (omega arith)
 
@@ -51,13 +52,6 @@ written-inside {l} {o} {at} {p} {xs} from k w h =
     (ap (λ (m : ℕ). part nan (take at l ++ (xs ++ rest)) (m + from) k) (sym e)
     ∙ part-second nan (take at l) (xs ++ rest) from k
     ∙ part-first nan xs rest from k h)
-
--- all of it
-written-here : {l o : List Float} {at p : ℕ} {xs : List Float} (k : ℕ) → Written l o at xs p → length xs ≡ k → part nan o at k ≡ xs
-unfolding put
-written-here {l} {o} {at} {p} {xs} k w h =
-    let r = w .room in
-    rw (w .held) (part-middle nan (take at l) xs (drop (at + length xs) l) at k (length-take-le at l (omega arith)) h)
 
 module _ (vertex : ℕ → List Float) (size : ℕ) (sized : (i : ℕ) → length (vertex i) ≡ size) where
   -- ---- a cell
@@ -93,7 +87,7 @@ module _ (vertex : ℕ → List Float) (size : ℕ) (sized : (i : ℕ) → lengt
     -- the rows that the cell has twice
     again-second : part nan o₃ p size ≡ vertex (i + 1)
     again-second =
-        part-before nan p size w₃ (omega (arith, w₂ .after, sized (i + 1))) ∙ written-here size w₂ (sized (i + 1))
+        part-before nan p size w₃ (omega (arith, w₂ .after, sized (i + 1))) ∙ written-here nan size w₂ (sized (i + 1))
 
     pub cell-written : {o₄ o₅ o₆ : List Float} {t u v : ℕ} → Written o₃ o₄ s (part nan o₃ p size) t → Written o₄ o₅ t (vertex (i + row + 1)) u
         → Written o₅ o₆ u (part nan o₅ q size) v → Written o₀ o₆ at (cellNumbers vertex row i) v
@@ -102,7 +96,7 @@ module _ (vertex : ℕ → List Float) (size : ℕ) (sized : (i : ℕ) → lengt
         let n₃ : q + size ≤ s = omega (arith, w₃ .after, sized (i + row)) in
         let n₄ : q + size ≤ t = omega (arith, w₄ .after) in
         let third : part nan o₅ q size ≡ vertex (i + row) =
-        part-before nan q size w₅ n₄ ∙ part-before nan q size w₄ n₃ ∙ written-here size w₃ (sized (i + row)) in
+        part-before nan q size w₅ n₄ ∙ part-before nan q size w₄ n₃ ∙ written-here nan size w₃ (sized (i + row)) in
         rw append-nil
         (written-then (written-then w₁ (written-then w₂ w₃))
         (written-then (rw again-second at w₄) (written-then w₅ (rw third at w₆))))
@@ -149,7 +143,7 @@ module _ (vertex : ℕ → List Float) (size : ℕ) (sized : (i : ℕ) → lengt
         (omega (arith, cells-place), rw e at (k .written))
 
     -- the row of cells above has the next vertex
-    pub stands-above : c + 1 < row → Above vertex l size row first at → Stands o (p - (6 * size * (row - 1) - 4 * size)) size p (vertex (first + c + 1))
+    pub stands-above : c + 1 < row → Above vertex l size row first at → RowStands o (p - (6 * size * (row - 1) - 4 * size)) size p (vertex (first + c + 1))
     stands-above h ab =
         let b : ℕ = 6 * size * (row - 1) in
         let e = cells-place in
@@ -170,7 +164,7 @@ module _ (vertex : ℕ → List Float) (size : ℕ) (sized : (i : ℕ) → lengt
         ∙ ap (λ (xs : List Float). part nan xs (c * (6 * size) + from) size) (sym (append-nil _))
         ∙ part-of-piece nan (suc c) (6 * size) (cells row first) (λ i. length-cell row (first + i)) [] c from size (omega arith) h
 
-    pub stands-left : (c : ℕ) → 0 < c → Cells l o at p row first c → Stands o (p - 5 * size) size p (vertex (first + c))
+    pub stands-left : (c : ℕ) → 0 < c → Cells l o at p row first c → RowStands o (p - 5 * size) size p (vertex (first + c))
     stands-left zero h k = absurd (omega arith)
     stands-left (suc c) h k =
         let e = cells-place k in
@@ -181,7 +175,7 @@ module _ (vertex : ℕ → List Float) (size : ℕ) (sized : (i : ℕ) → lengt
           held = rw (← x, ← y) (from-last c k size (omega arith) ∙ second-row row (first + c));
         }
 
-    pub stands-below : (c : ℕ) → 0 < c → Cells l o at p row first c → Stands o (p - 2 * size) size p (vertex (first + c + row))
+    pub stands-below : (c : ℕ) → 0 < c → Cells l o at p row first c → RowStands o (p - 2 * size) size p (vertex (first + c + row))
     stands-below zero h k = absurd (omega arith)
     stands-below (suc c) h k =
         let e = cells-place k in

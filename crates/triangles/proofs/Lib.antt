@@ -1,4 +1,4 @@
-pub mod Sources
+pub mod Rows
 pub mod Counting
 pub mod Writing
 pub mod Cells

@@ -17,15 +17,15 @@ use Rattle.lists.proofs.Writing.{written-length, written-none, written-then, wr
 use Rattle.rules.specs.Triangles.{Tri, tri, Rule, triangles, corners}
 use Rattle.rules.proofs.Walks.{Walk, keptOf, walk-start, walk-end, walk-first, walk-cut, walk-bc, walk-ac, walk-alone, walk-far, walk-room}
 use Rattle.rules.proofs.TwoRules.{counts-equal}
-use Rattle.triangles.specs.declared.vertices.Source.{Source}
-use Rattle.triangles.specs.Sources.{Stands, flagIn, ruleOf, trianglesIn}
+use Rattle.triangles.specs.declared.vertices.Vertices.{Vertices}
+use Rattle.triangles.specs.Inner.Vertices.{RowStands, flagOfVertex, ruleOf, trianglesIn}
 use Rattle.triangles.proofs.Counting.{flagList, length-flags, flag-here, one-or-two}
 
 -- both rules give equally many triangles
-pub same-count : (last : Bool) (v : Source) (s : List ℕ) (vs : List Float) → length (trianglesIn false v s vs) ≡ length (trianglesIn last v s vs)
+pub same-count : (last : Bool) (v : Vertices) (s : List ℕ) (vs : List Float) → length (trianglesIn false v s vs) ≡ length (trianglesIn last v s vs)
 unfolding trianglesIn
 same-count false v s vs = refl
-same-count true v s vs = sym (counts-equal (flagList (flagIn v s vs) (v .total)))
+same-count true v s vs = sym (counts-equal (flagList (flagOfVertex v s vs) (v .total)))
 
 module _ (row : ℕ → List Float) (size : ℕ) (sized : (i : ℕ) → length (row i) ≡ size) where
   length-corners : (t : Tri) → length (corners row t) ≡ 3 * size
@@ -38,9 +38,9 @@ module _ (row : ℕ → List Float) (size : ℕ) (sized : (i : ℕ) → length (
   -- the row of va stands at index first, those of vb and vc right before p
   pub record Three (o : List Float) (p first : ℕ) (t : Tri) : Type 0 where
     pub enough : 3 * size ≤ p
-    pub va : Stands o first size p (row (t .a))
-    pub vb : Stands o (p - 2 * size) size p (row (t .b))
-    pub vc : Stands o (p - size) size p (row (t .c))
+    pub va : RowStands o first size p (row (t .a))
+    pub vb : RowStands o (p - 2 * size) size p (row (t .b))
+    pub vc : RowStands o (p - size) size p (row (t .c))
 
   abbrev pub Kept : List Float → ℕ → ℕ → Option Tri → Type 0
   Kept o p first none = p ≡ 0

@@ -1,21 +1,21 @@
 // Type 5: the cells of a lattice, in row order. A vertex that an earlier cell has is copied from there inside out, but at the left edge and above
-// the first row of cells; the others are decoded.
+// the first row of cells; the others are read.
 ghost use mathlib.Core.Path.{_≡_};
 ghost use Prim.Native.Nat.{_+_, _-_, _*_, _/_, _≤_, _<_};
 ghost use mathlib.Core.Bool.{true, cond};
 ghost use lib.ListN.{length};
 ghost use lib.Dec.{ltb};
-ghost use Rattle.lists.specs.Lists.{joined, flat};
+ghost use Rattle.lists.specs.Lists.{joined};
 ghost use Rattle.lists.specs.Writing.{Written};
-ghost use Rattle.answers.specs.Outcome.{Done, fitted};
-ghost use Rattle.rows.specs.Placing.{listed};
-ghost use Rattle.rules.specs.Triangles.{corners};
+ghost use Rattle.answers.specs.Outcome.{Done};
+ghost use Rattle.rows.specs.Inner.Layouts.{heldRanges};
 ghost use Rattle.rules.specs.Lattice.{lattice};
-ghost use Rattle.triangles.specs.Sources.{Sound, rowIn, Stands};
-ghost use Rattle.triangles.specs.Cells.{cellNumbers, cellsNumbers, Above};
-use crate::vertices::Source;
+ghost use Rattle.rules.specs.Meshes.{finished};
+ghost use Rattle.meshes.specs.Outcomes.{fittedMesh};
+ghost use Rattle.triangles.specs.Inner.Vertices.{VerticesThere, rowOfVertex, RowStands};
+ghost use Rattle.triangles.specs.Inner.Cells.{cellNumbers, cellsNumbers, Above};
+use crate::vertices::Vertices;
 use crate::vertices::copy_row;
-use crate::vertices::write_row;
 use crate::vertices::write_vertex;
 use answers::Answer;
 use answers::Refusal;
@@ -41,75 +41,92 @@ fn back_from(there: bool, at: usize, back: usize, nowhere: usize) -> usize
     nowhere
 }
 
-// The rows i, i + 1, j, i + 1, j + 1, j of the cell whose first vertex is i, where j is the vertex below i. The rows of i, i + 1 and j may stand in
-// out already, at the given indices; those that do not have an index past its end.
-fn write_cell(
+// The row of vertex i, copied from index `from` of out where it stands there already. Where it stands nowhere, `from` is no index before `at`.
+fn write_row(
     data: &[u8],
     values: &[f64],
-    source: Source,
-    mins: &[f64; 34],
-    scales: &[f64; 34],
+    vertices: Vertices,
+    ranges: &[f64; 68],
+    i: usize,
+    from: usize,
+    out: &mut [f64],
+    at: usize,
+) -> usize
+    requires { ⌜ VerticesThere vertices (now «data») (now values) × (i < vertices .total) × (at + (vertices .layout .n + 10) ≤ length (now out)) × (from < at → RowStands (now out) from (vertices .layout .n + 10) at (rowOfVertex vertices (now «data») (now values) (heldRanges (now ranges)) i)) ⌝ }
+    ensures { λ r. ⌜ r ≡ at + (vertices .layout .n + 10) ⌝ }
+    ensures { λ r. ⌜ Written (now (out .entry)) (now (out .exit)) at (rowOfVertex vertices (now («data» .entry)) (now (values .entry)) (heldRanges (now (ranges .entry))) i) r ⌝ }
+{
+    if from < at {
+        return copy_row(vertices.layout.n, from, out, at);
+    }
+    write_vertex(data, values, vertices, ranges, i, out, at)
+}
+
+// A cell of rows of so many vertices: its first vertex i, and where the rows of i, of i + 1 and of j, the vertex below i, stand in out already. A row
+// that does not stand there has an index past the end.
+struct Cell {
     row: usize,
     i: usize,
     left: usize,
     above: usize,
     below: usize,
+}
+
+// The rows i, i + 1, j, i + 1, j + 1, j.
+fn write_cell(
+    data: &[u8],
+    values: &[f64],
+    vertices: Vertices,
+    ranges: &[f64; 68],
+    cell: Cell,
     out: &mut [f64],
     at: usize,
 ) -> usize
-    requires { ⌜ Sound source (now «data») (now values) × (i + row + 1 < source .total) × (at + 6 * (source .n + 10) ≤ length (now out)) × (left < length (now out) → Stands (now out) left (source .n + 10) at (rowIn source (now «data») (now values) (listed (now mins) (now scales)) i)) × (above < length (now out) → Stands (now out) above (source .n + 10) at (rowIn source (now «data») (now values) (listed (now mins) (now scales)) (i + 1))) × (below < length (now out) → Stands (now out) below (source .n + 10) at (rowIn source (now «data») (now values) (listed (now mins) (now scales)) (i + row))) ⌝ }
-    ensures { λ r. ⌜ r ≡ at + 6 * (source .n + 10) ⌝ }
-    ensures { λ r. ⌜ Written (now (out .entry)) (now (out .exit)) at (cellNumbers (rowIn source (now («data» .entry)) (now (values .entry)) (listed (now (mins .entry)) (now (scales .entry)))) row i) r ⌝ }
+    requires { ⌜ VerticesThere vertices (now «data») (now values) × (cell .i + cell .row + 1 < vertices .total) × (at + 6 * (vertices .layout .n + 10) ≤ length (now out)) × (cell .left < length (now out) → RowStands (now out) (cell .left) (vertices .layout .n + 10) at (rowOfVertex vertices (now «data») (now values) (heldRanges (now ranges)) (cell .i))) × (cell .above < length (now out) → RowStands (now out) (cell .above) (vertices .layout .n + 10) at (rowOfVertex vertices (now «data») (now values) (heldRanges (now ranges)) (cell .i + 1))) × (cell .below < length (now out) → RowStands (now out) (cell .below) (vertices .layout .n + 10) at (rowOfVertex vertices (now «data») (now values) (heldRanges (now ranges)) (cell .i + cell .row))) ⌝ }
+    ensures { λ r. ⌜ r ≡ at + 6 * (vertices .layout .n + 10) ⌝ }
+    ensures { λ r. ⌜ Written (now (out .entry)) (now (out .exit)) at (cellNumbers (rowOfVertex vertices (now («data» .entry)) (now (values .entry)) (heldRanges (now (ranges .entry)))) (cell .row) (cell .i)) r ⌝ }
 {
-    let j = i + row;
-    let p = write_row(data, values, source, mins, scales, i, left, out, at);
-    let q = write_row(data, values, source, mins, scales, i + 1, above, out, p);
-    let s = write_row(data, values, source, mins, scales, j, below, out, q);
-    let t = copy_row(source, p, out, s);
-    let u = write_vertex(data, values, source, mins, scales, j + 1, out, t);
-    copy_row(source, q, out, u)
+    let n = vertices.layout.n;
+    let i = cell.i;
+    let j = i + cell.row;
+    let p = write_row(data, values, vertices, ranges, i, cell.left, out, at);
+    let q = write_row(data, values, vertices, ranges, i + 1, cell.above, out, p);
+    let s = write_row(data, values, vertices, ranges, j, cell.below, out, q);
+    let t = copy_row(n, p, out, s);
+    let u = write_vertex(data, values, vertices, ranges, j + 1, out, t);
+    copy_row(n, q, out, u)
 }
 
 // The cells between the row of vertices that begins with vertex `first` and the next.
 fn write_cells(
     data: &[u8],
     values: &[f64],
-    source: Source,
-    mins: &[f64; 34],
-    scales: &[f64; 34],
+    vertices: Vertices,
+    ranges: &[f64; 68],
     row: usize,
     first: usize,
     out: &mut [f64],
     at: usize,
 ) -> usize
-    requires { ⌜ Sound source (now «data») (now values) × (2 ≤ row) × (first + 2 * row ≤ source .total) × (at + 6 * (source .n + 10) * (row - 1) ≤ length (now out)) × (0 < first → Above (rowIn source (now «data») (now values) (listed (now mins) (now scales))) (now out) (source .n + 10) row first at) ⌝ }
-    ensures { λ r. ⌜ r ≡ at + 6 * (source .n + 10) * (row - 1) ⌝ }
-    ensures { λ r. ⌜ Written (now (out .entry)) (now (out .exit)) at (cellsNumbers (rowIn source (now («data» .entry)) (now (values .entry)) (listed (now (mins .entry)) (now (scales .entry)))) row first) r ⌝ }
+    requires { ⌜ VerticesThere vertices (now «data») (now values) × (2 ≤ row) × (first + 2 * row ≤ vertices .total) × (at + 6 * (vertices .layout .n + 10) * (row - 1) ≤ length (now out)) × (0 < first → Above (rowOfVertex vertices (now «data») (now values) (heldRanges (now ranges))) (now out) (vertices .layout .n + 10) row first at) ⌝ }
+    ensures { λ r. ⌜ r ≡ at + 6 * (vertices .layout .n + 10) * (row - 1) ⌝ }
+    ensures { λ r. ⌜ Written (now (out .entry)) (now (out .exit)) at (cellsNumbers (rowOfVertex vertices (now («data» .entry)) (now (values .entry)) (heldRanges (now (ranges .entry)))) row first) r ⌝ }
 {
-    let size = source.n + 10;
+    let size = vertices.layout.n + 10;
     let nowhere = out.len();
     let back = 6 * size * (row - 1) - 4 * size;
     let mut p = at;
     let mut c: usize = 0;
     while c + 1 < row {
-        let left = back_from(c > 0, p, 5 * size, nowhere);
-        let above = back_from(first > 0, p, back, nowhere);
-        let below = back_from(c > 0, p, 2 * size, nowhere);
         let i = first + c;
-        p = write_cell(
-            data,
-            values,
-            source,
-            mins,
-            scales,
+        let cell = Cell {
             row,
             i,
-            left,
-            above,
-            below,
-            out,
-            p,
-        );
+            left: back_from(c > 0, p, 5 * size, nowhere),
+            above: back_from(first > 0, p, back, nowhere),
+            below: back_from(c > 0, p, 2 * size, nowhere),
+        };
+        p = write_cell(data, values, vertices, ranges, cell, out, p);
         c += 1;
     }
     p
@@ -119,21 +136,20 @@ fn write_cells(
 fn write_lattice(
     data: &[u8],
     values: &[f64],
-    source: Source,
-    mins: &[f64; 34],
-    scales: &[f64; 34],
+    vertices: Vertices,
+    ranges: &[f64; 68],
     row: usize,
     rows: usize,
     out: &mut [f64],
 ) -> usize
-    requires { ⌜ Sound source (now «data») (now values) × (2 ≤ row) × (rows * row ≤ source .total) × ((rows - 1) * (6 * (source .n + 10) * (row - 1)) ≤ length (now out)) ⌝ }
-    ensures { λ r. ⌜ Written (now (out .entry)) (now (out .exit)) 0 (joined (rows - 1) (λ r. cellsNumbers (rowIn source (now («data» .entry)) (now (values .entry)) (listed (now (mins .entry)) (now (scales .entry)))) row (r * row))) r ⌝ }
+    requires { ⌜ VerticesThere vertices (now «data») (now values) × (2 ≤ row) × (rows * row ≤ vertices .total) × ((rows - 1) * (6 * (vertices .layout .n + 10) * (row - 1)) ≤ length (now out)) ⌝ }
+    ensures { λ r. ⌜ Written (now (out .entry)) (now (out .exit)) 0 (joined (rows - 1) (λ r. cellsNumbers (rowOfVertex vertices (now («data» .entry)) (now (values .entry)) (heldRanges (now (ranges .entry)))) row (r * row))) r ⌝ }
 {
     let mut p: usize = 0;
     let mut first: usize = 0;
     let mut r: usize = 0;
     while r + 1 < rows {
-        p = write_cells(data, values, source, mins, scales, row, first, out, p);
+        p = write_cells(data, values, vertices, ranges, row, first, out, p);
         first += row;
         r += 1;
     }
@@ -144,23 +160,22 @@ fn write_lattice(
 pub fn lattice_form(
     data: &[u8],
     values: &[f64],
-    source: Source,
-    mins: &[f64; 34],
-    scales: &[f64; 34],
+    vertices: Vertices,
+    ranges: &[f64; 68],
     row: usize,
     out: &mut [f64],
 ) -> Answer
-    requires { ⌜ Sound source (now «data») (now values) ⌝ }
-    ensures { λ r. ⌜ Done (fitted (length (lattice (source .total) row)) (flat (corners (rowIn source (now («data» .entry)) (now (values .entry)) (listed (now (mins .entry)) (now (scales .entry))))) (lattice (source .total) row)) (length (now (out .entry)))) (now (out .entry)) r (now (out .exit)) ⌝ }
+    requires { ⌜ VerticesThere vertices (now «data») (now values) ⌝ }
+    ensures { λ r. ⌜ Done (fittedMesh (finished (lattice (vertices .total) row) (rowOfVertex vertices (now («data» .entry)) (now (values .entry)) (heldRanges (now (ranges .entry))))) (length (now (out .entry)))) (now (out .entry)) r (now (out .exit)) ⌝ }
 {
-    let rows = lattice_rows(source.total, row);
+    let rows = lattice_rows(vertices.total, row);
     if rows < 2 {
         return Answer::Wrote(0);
     }
     let count = 2 * (rows - 1) * (row - 1);
-    if out.len() < count * (3 * (source.n + 10)) {
+    if out.len() < count * (3 * (vertices.layout.n + 10)) {
         return Answer::Refused(Refusal::Room);
     }
-    write_lattice(data, values, source, mins, scales, row, rows, out);
+    write_lattice(data, values, vertices, ranges, row, rows, out);
     Answer::Wrote(count)
 }

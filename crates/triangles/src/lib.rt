@@ -8,15 +8,15 @@ ghost use Rattle.answers.specs.Outcome.{Done};
 ghost use Rattle.rules.specs.Triangles.{triangleBefore, triangles};
 ghost use Rattle.rules.specs.Ported.{binaryReader, listBuilder};
 ghost use Rattle.meshes.specs.Outcomes.{parse4, parse5, build4, build5};
-ghost use Rattle.triangles.specs.Sources.{ruleOf};
+ghost use Rattle.triangles.specs.Inner.Vertices.{ruleOf};
 use crate::free_form::free_form;
 use crate::lattice_form::lattice_form;
-use crate::vertices::source_of_bits;
-use crate::vertices::source_of_list;
+use crate::vertices::vertices_in;
 use answers::Answer;
 use answers::Refusal;
 use records::layout::FlagWidth;
 use records::layout::mesh_layout_is_readable;
+use rows::Layout;
 
 mod free_form;
 mod lattice_form;
@@ -44,11 +44,17 @@ fn read_type4(
     if data.len() > answers::MOST_BYTES {
         return Answer::Refused(Refusal::Length);
     }
-    let source = source_of_bits(data, coord, comp, flag, n);
-    let mut mins = [0.0f64; 34];
-    let mut scales = [0.0f64; 34];
-    rows::fill_ranges(decode, coord, comp, &mut mins, &mut scales);
-    free_form(data, &decode[0..0], source, &mins, &scales, false, out)
+    let layout = Layout {
+        listed: false,
+        flag,
+        coord,
+        comp,
+        n,
+    };
+    let vertices = vertices_in(layout, 8 * data.len());
+    let mut ranges = [0.0f64; 68];
+    rows::fill_ranges(decode, coord, comp, &mut ranges);
+    free_form(data, &decode[0..0], vertices, &ranges, false, out)
 }
 
 fn read_type5(
@@ -71,11 +77,17 @@ fn read_type5(
     if data.len() > answers::MOST_BYTES {
         return Answer::Refused(Refusal::Length);
     }
-    let source = source_of_bits(data, coord, comp, 0, n);
-    let mut mins = [0.0f64; 34];
-    let mut scales = [0.0f64; 34];
-    rows::fill_ranges(decode, coord, comp, &mut mins, &mut scales);
-    lattice_form(data, &decode[0..0], source, &mins, &scales, row, out)
+    let layout = Layout {
+        listed: false,
+        flag: 0,
+        coord,
+        comp,
+        n,
+    };
+    let vertices = vertices_in(layout, 8 * data.len());
+    let mut ranges = [0.0f64; 68];
+    rows::fill_ranges(decode, coord, comp, &mut ranges);
+    lattice_form(data, &decode[0..0], vertices, &ranges, row, out)
 }
 
 // The Type 4 reader of 000.
@@ -93,7 +105,7 @@ pub fn parse_type4_mesh(
     read_type4(data, coord, comp, flag, decode, n, out)
 }
 
-// Type 4 as ISO 32000-1, 8.7.4.5.5, has it: the same triangles.
+// Type 4 as ISO 32000-1, 8.7.4.5.5, has it, but for what docs/DIFFERENCES.md lists: the same triangles.
 pub fn published_type4_mesh(
     data: &[u8],
     coord: usize,
@@ -123,7 +135,7 @@ pub fn parse_type5_mesh(
     read_type5(data, coord, comp, decode, n, row, out)
 }
 
-// Type 5 as ISO 32000-1, 8.7.4.5.6, has it: the same triangles.
+// Type 5 as ISO 32000-1, 8.7.4.5.6, has it, but for what docs/DIFFERENCES.md lists: the same triangles.
 pub fn published_type5_mesh(
     data: &[u8],
     coord: usize,
@@ -149,10 +161,17 @@ fn build_type4(values: &[f64], n: usize, last_three: bool, out: &mut [f64]) -> A
     if values.len() > answers::MOST_NUMBERS {
         return Answer::Refused(Refusal::Length);
     }
-    let source = source_of_list(values, 1, n);
+    let layout = Layout {
+        listed: true,
+        flag: 1,
+        coord: 1,
+        comp: 1,
+        n,
+    };
+    let vertices = vertices_in(layout, values.len());
     let none = [0u8; 1];
-    let zeros = [0.0f64; 34];
-    free_form(&none, values, source, &zeros, &zeros, last_three, out)
+    let ranges = [0.0f64; 68];
+    free_form(&none, values, vertices, &ranges, last_three, out)
 }
 
 fn build_type5(values: &[f64], n: usize, row: usize, out: &mut [f64]) -> Answer
@@ -164,10 +183,17 @@ fn build_type5(values: &[f64], n: usize, row: usize, out: &mut [f64]) -> Answer
     if values.len() > answers::MOST_NUMBERS {
         return Answer::Refused(Refusal::Length);
     }
-    let source = source_of_list(values, 0, n);
+    let layout = Layout {
+        listed: true,
+        flag: 0, // a Type 5 list has none
+        coord: 1,
+        comp: 1,
+        n,
+    };
+    let vertices = vertices_in(layout, values.len());
     let none = [0u8; 1];
-    let zeros = [0.0f64; 34];
-    lattice_form(&none, values, source, &zeros, &zeros, row, out)
+    let ranges = [0.0f64; 68];
+    lattice_form(&none, values, vertices, &ranges, row, out)
 }
 
 // The Type 4 builder of 000: it goes on from the last three vertices that it kept.

@@ -1,135 +1,136 @@
 // The vertices of a mesh, in bits or in a list of numbers, and their rows in a lent output.
 ghost use mathlib.Core.Path.{_≡_};
-ghost use Prim.Native.Nat.{_+_, _*_, _≤_, _<_};
+ghost use Prim.Native.Nat.{_+_, _-_, _*_, _≤_, _<_};
+ghost use mathlib.Core.List.{_++_};
 ghost use lib.ListN.{length};
 ghost use lib.Ieee.{nan};
 ghost use Rattle.lists.specs.Lists.{part};
 ghost use Rattle.lists.specs.Writing.{Written};
-ghost use Rattle.rows.specs.Placing.{listed};
-ghost use Rattle.triangles.specs.Sources.{bitsSource, listSource, Sound, Flagged, flagIn, rowIn, Stands};
-use bits::BitPos;
-use bits::BitRead;
+ghost use Rattle.rows.specs.Inner.Layouts.{heldRanges};
+ghost use Rattle.triangles.specs.Inner.Vertices.{verticesIn, VerticesThere, Flagged, flagOfVertex, rowOfVertex, rowBeside, sharedRows, rowIndex};
+use rows::Layout;
+use rows::Place;
+use rows::Vertex;
 
-// How the vertices stand one after the other: in a list of numbers, or in bits. A vertex takes `size` numbers or bits, of which `lead` come
-// before its coordinates: those of its flag.
-pub struct Source {
-    pub listed: bool,
-    pub n: usize,
-    pub coord: usize,
-    pub comp: usize,
-    pub lead: usize,
+// How the vertices stand one after the other: each takes size places, of which those of its flag come first.
+pub struct Vertices {
+    pub layout: Layout,
     pub size: usize,
     pub total: usize,
 }
 
-// As many vertices as bytes hold. Those of Type 5 have no flag: their lead is 0.
-pub fn source_of_bits(data: &[u8], coord: usize, comp: usize, lead: usize, n: usize) -> Source
-    requires { ⌜ (1 ≤ coord) × (coord ≤ 32) × (comp ≤ 32) × (lead ≤ 32) × (n ≤ 32) × (length (now «data») ≤ 16777216) ⌝ }
-    ensures { λ r. ⌜ r ≡ bitsSource (length (now («data» .entry))) coord comp lead n ⌝ }
+// As many vertices as so many places hold.
+pub fn vertices_in(layout: Layout, limit: usize) -> Vertices
+    requires { ⌜ (1 ≤ layout .coord) × (layout .coord ≤ 32) × (layout .comp ≤ 32) × (layout .flag ≤ 32) × (layout .n ≤ 32) ⌝ }
+    ensures { λ r. ⌜ r ≡ verticesIn layout limit ⌝ }
 {
-    let size = lead + (2 * coord + n * comp);
-    Source {
-        listed: false,
-        n,
-        coord,
-        comp,
-        lead,
+    let size = layout.flag + (2 * layout.coord + layout.n * layout.comp);
+    Vertices {
+        layout,
         size,
-        total: 8 * data.len() / size,
-    }
-}
-
-// As many vertices as a list of numbers holds.
-pub fn source_of_list(values: &[f64], lead: usize, n: usize) -> Source
-    requires { ⌜ (lead ≤ 1) × (n ≤ 32) ⌝ }
-    ensures { λ r. ⌜ r ≡ listSource (length (now (values .entry))) lead n ⌝ }
-{
-    let size = lead + (2 + n);
-    Source {
-        listed: true,
-        n,
-        coord: 0,
-        comp: 0,
-        lead,
-        size,
-        total: values.len() / size,
+        total: limit / size,
     }
 }
 
 // The flag of vertex i.
-pub fn flag_at(data: &[u8], values: &[f64], source: Source, i: usize) -> u32
-    requires { ⌜ Sound source (now «data») (now values) × Flagged source × (i < source .total) ⌝ }
-    ensures { λ r. ⌜ r ≡ flagIn source (now («data» .entry)) (now (values .entry)) i ⌝ }
+pub fn flag_at(data: &[u8], values: &[f64], vertices: Vertices, i: usize) -> u32
+    requires { ⌜ VerticesThere vertices (now «data») (now values) × Flagged vertices × (i < vertices .total) ⌝ }
+    ensures { λ r. ⌜ r ≡ flagOfVertex vertices (now («data» .entry)) (now (values .entry)) i ⌝ }
 {
-    let place = i * source.size;
-    if source.listed {
-        return decode::flag_of(values[place]);
+    let layout = vertices.layout;
+    rows::flag_at(data, values, layout, Place(i * vertices.size))
+}
+
+// Copies the row that stands in out from an index.
+pub fn copy_row(n: usize, from: usize, out: &mut [f64], at: usize) -> usize
+    requires { ⌜ (n ≤ 32) × (from + (n + 10) ≤ at) × (at + (n + 10) ≤ length (now out)) ⌝ }
+    ensures { λ r. ⌜ r ≡ at + (n + 10) ⌝ }
+    ensures { λ r. ⌜ Written (now (out .entry)) (now (out .exit)) at (part nan (now (out .entry)) from (n + 10)) r ⌝ }
+{
+    let p = rows::copy_point(out, from, at);
+    rows::copy_colour(out, from + 2, n, p)
+}
+
+// Writes the rows of a triangle that come with a vertex: where it is joined to the triangle before by a side, whose first row stands at index side and
+// whose second right before `at`, those two; then the row of the vertex, whose components stand beside it already. Where there is no side,
+// `side` is `at`.
+fn write_corner(vertex: Vertex, side: usize, n: usize, out: &mut [f64], at: usize) -> usize
+    requires { ⌜ (n ≤ 32) × (at + (n + 10) ≤ length (now out)) × (side < at → (side + (n + 10) ≤ at) × (at + 3 * (n + 10) ≤ length (now out))) ⌝ }
+    ensures { λ r. ⌜ Written (now (out .entry)) (now (out .exit)) at (sharedRows (now (out .entry)) side (n + 10) at ++ rowBeside (now (out .entry)) (rowIndex side (n + 10) at) n vertex) r ⌝ }
+{
+    if side < at {
+        let second = at - (n + 10);
+        let p = copy_row(n, side, out, at);
+        let q = copy_row(n, second, out, p);
+        return rows::write_vertex(vertex, out, q) + n;
     }
-    let BitRead::Number(flag, _) = bits::read(data, BitPos(place), source.lead) else {
-        return 0;
-    };
-    flag
+    rows::write_vertex(vertex, out, at) + n
+}
+
+// Where the row of a vertex begins that comes with or without a side.
+fn row_index(side: usize, n: usize, at: usize) -> usize
+    requires { ⌜ (n ≤ 32) × (at ≤ 1152921504606846976) ⌝ }
+    ensures { λ r. ⌜ r ≡ rowIndex side (n + 10) at ⌝ }
+{
+    if side < at {
+        return at + 2 * (n + 10);
+    }
+    at
+}
+
+// Reads vertex i, and writes the rows that come with it.
+fn add_vertex(
+    data: &[u8],
+    values: &[f64],
+    vertices: Vertices,
+    ranges: &[f64; 68],
+    i: usize,
+    side: usize,
+    out: &mut [f64],
+    at: usize,
+) -> usize
+    requires { ⌜ VerticesThere vertices (now «data») (now values) × (i < vertices .total) × (at + (vertices .layout .n + 10) ≤ length (now out)) × (side < at → (side + (vertices .layout .n + 10) ≤ at) × (at + 3 * (vertices .layout .n + 10) ≤ length (now out))) ⌝ }
+    ensures { λ r. ⌜ Written (now (out .entry)) (now (out .exit)) at (sharedRows (now (out .entry)) side (vertices .layout .n + 10) at ++ rowOfVertex vertices (now («data» .entry)) (now (values .entry)) (heldRanges (now (ranges .entry))) i) r ⌝ }
+{
+    let layout = vertices.layout;
+    let n = layout.n;
+    let place = Place(i * vertices.size + layout.flag);
+    let row = row_index(side, n, at);
+    let vertex = rows::read_vertex(data, values, layout, ranges, place, out, row);
+    write_corner(vertex, side, n, out, at)
 }
 
 // Writes the row of vertex i.
 pub fn write_vertex(
     data: &[u8],
     values: &[f64],
-    source: Source,
-    mins: &[f64; 34],
-    scales: &[f64; 34],
+    vertices: Vertices,
+    ranges: &[f64; 68],
     i: usize,
     out: &mut [f64],
     at: usize,
 ) -> usize
-    requires { ⌜ Sound source (now «data») (now values) × (i < source .total) × (at + (source .n + 10) ≤ length (now out)) ⌝ }
-    ensures { λ r. ⌜ r ≡ at + (source .n + 10) ⌝ }
-    ensures { λ r. ⌜ Written (now (out .entry)) (now (out .exit)) at (rowIn source (now («data» .entry)) (now (values .entry)) (listed (now (mins .entry)) (now (scales .entry))) i) r ⌝ }
+    requires { ⌜ VerticesThere vertices (now «data») (now values) × (i < vertices .total) × (at + (vertices .layout .n + 10) ≤ length (now out)) ⌝ }
+    ensures { λ r. ⌜ r ≡ at + (vertices .layout .n + 10) ⌝ }
+    ensures { λ r. ⌜ Written (now (out .entry)) (now (out .exit)) at (rowOfVertex vertices (now («data» .entry)) (now (values .entry)) (heldRanges (now (ranges .entry))) i) r ⌝ }
 {
-    let place = i * source.size + source.lead;
-    if source.listed {
-        return rows::list_vertex(values, source.n, place, out, at);
-    }
-    rows::place_vertex(
-        data,
-        source.coord,
-        source.comp,
-        source.n,
-        mins,
-        scales,
-        BitPos(place),
-        out,
-        at,
-    )
+    add_vertex(data, values, vertices, ranges, i, at, out, at)
 }
 
-// Copies the row that stands in out from an index.
-pub fn copy_row(source: Source, from: usize, out: &mut [f64], at: usize) -> usize
-    requires { ⌜ (source .n ≤ 32) × (from + (source .n + 10) ≤ at) × (at + (source .n + 10) ≤ length (now out)) ⌝ }
-    ensures { λ r. ⌜ r ≡ at + (source .n + 10) ⌝ }
-    ensures { λ r. ⌜ Written (now (out .entry)) (now (out .exit)) at (part nan (now (out .entry)) from (source .n + 10)) r ⌝ }
-{
-    rows::copy_row(out, from, source.n, at)
-}
-
-// The same row as write_vertex, copied from index `from` of out where it stands there already. Where it stands nowhere, `from` is `at`.
-pub fn write_row(
+// Writes the row that stands at index first, the row right before `at`, and the row of vertex i.
+pub fn write_joined(
     data: &[u8],
     values: &[f64],
-    source: Source,
-    mins: &[f64; 34],
-    scales: &[f64; 34],
+    vertices: Vertices,
+    ranges: &[f64; 68],
+    first: usize,
     i: usize,
-    from: usize,
     out: &mut [f64],
     at: usize,
 ) -> usize
-    requires { ⌜ Sound source (now «data») (now values) × (i < source .total) × (at + (source .n + 10) ≤ length (now out)) × (from < at → Stands (now out) from (source .n + 10) at (rowIn source (now «data») (now values) (listed (now mins) (now scales)) i)) ⌝ }
-    ensures { λ r. ⌜ r ≡ at + (source .n + 10) ⌝ }
-    ensures { λ r. ⌜ Written (now (out .entry)) (now (out .exit)) at (rowIn source (now («data» .entry)) (now (values .entry)) (listed (now (mins .entry)) (now (scales .entry))) i) r ⌝ }
+    requires { ⌜ VerticesThere vertices (now «data») (now values) × (i < vertices .total) × (first + (vertices .layout .n + 10) ≤ at) × (at + 3 * (vertices .layout .n + 10) ≤ length (now out)) ⌝ }
+    ensures { λ r. ⌜ r ≡ at + 3 * (vertices .layout .n + 10) ⌝ }
+    ensures { λ r. ⌜ Written (now (out .entry)) (now (out .exit)) at (part nan (now (out .entry)) first (vertices .layout .n + 10) ++ (part nan (now (out .entry)) (at - (vertices .layout .n + 10)) (vertices .layout .n + 10) ++ rowOfVertex vertices (now («data» .entry)) (now (values .entry)) (heldRanges (now (ranges .entry))) i)) r ⌝ }
 {
-    if from < at {
-        return copy_row(source, from, out, at);
-    }
-    write_vertex(data, values, source, mins, scales, i, out, at)
+    add_vertex(data, values, vertices, ranges, i, first, out, at)
 }

@@ -1,7 +1,7 @@
 -- `triangles::build_type4` meets its contract: each refusal in its order, then the core over the list. Assumes nothing.
 use native.Mathlib.Omega.{arith}
 use Rattle.meshes.proofs.Endings.{list-components, list-too-long}
-use Rattle.triangles.proofs.Ends.{sound-list, list4-ended}
+use Rattle.triangles.proofs.Ends.{there-list, list4-ended}
 use borrow.Author.Needs.{needs}
 use Rattle.triangles.proofs.build_type4.Statement.{statement}
 use Rattle.triangles.proofs.build_type4.Tie as tie
@@ -12,25 +12,25 @@ returns c = list-components _ _ _ _ (c .if1 .taken)
 returns-2 : tie.Need-returns-2
 returns-2 c = list-too-long _ _ _ _ (c .before .if1 .left) (c .if2 .taken)
 
-source-of-list-requires : tie.Need-source-of-list-requires
-source-of-list-requires c κs = (omega arith, c .before .if1 .left)
+vertices-in-requires : tie.Need-vertices-in-requires
+vertices-in-requires c κs = (omega arith, omega arith, omega arith, omega arith, c .before .if1 .left)
 
 slice-aggregate-free-form : tie.Need-slice-aggregate-free-form
 slice-aggregate-free-form c = search needs
 
 free-form-requires : tie.Need-free-form-requires
-free-form-requires c κs = let s = c .before .before .before .before .before .before .before .before .before in
-    let e = c .before .before .before .before .source-of-list .ensures in
-    let h = sound-list _ _ 1 (s .args .n) (c .before .before .before .before .before .before .if1 .left) (c .before .before .before .before .before .if2 .left) in
+free-form-requires c κs = let s = c .before .before .before .before .before .before .before .before in
+    let e = c .before .before .before .vertices-in .ensures in
+    let h = there-list _ _ 1 (s .args .n) (c .before .before .before .before .before .if1 .left) (c .before .before .before .before .if2 .left) in
     (rw e h, rw e (record { some-bits = omega arith; few-bits = omega arith }))
 
 same-length : tie.Need-same-length
 same-length c = search needs
 
 returns-3 : tie.Need-returns-3
-returns-3 c = let s = c .before .before .before .before .before .before .before .before .before .before .before .before in
-    let e = c .before .before .before .before .before .before .before .source-of-list .ensures in
-    list4-ended _ _ (s .args .n) _ (c .before .before .before .before .before .before .before .before .before .if1 .left) (c .before .before .before .before .before .before .before .before .if2 .left) (s .args .last-three) (rw e at (c .before .before .free-form .ensures))
+returns-3 c = let s = c .before .before .before .before .before .before .before .before .before .before .before in
+    let e = c .before .before .before .before .before .before .vertices-in .ensures in
+    list4-ended _ _ (s .args .n) _ (c .before .before .before .before .before .before .before .before .if1 .left) (c .before .before .before .before .before .before .before .if2 .left) (s .args .last-three) (rw e at (c .before .before .free-form .ensures))
 
 pub build-type4-spec : {M : Type 1} → statement M
 build-type4-spec =
@@ -38,7 +38,7 @@ build-type4-spec =
     (tie.spec
     returns
     returns-2
-    source-of-list-requires
+    vertices-in-requires
     slice-aggregate-free-form
     free-form-requires
     same-length

@@ -1,7 +1,7 @@
 -- `triangles::build_type5` meets its contract: each refusal in its order, then the core over the list. Assumes nothing.
 use native.Mathlib.Omega.{arith}
 use Rattle.meshes.proofs.Endings.{list-components, list-too-long}
-use Rattle.triangles.proofs.Ends.{sound-list, list5-ended}
+use Rattle.triangles.proofs.Ends.{there-list, list5-ended}
 use borrow.Author.Needs.{needs}
 use Rattle.triangles.proofs.build_type5.Statement.{statement}
 use Rattle.triangles.proofs.build_type5.Tie as tie
@@ -12,25 +12,25 @@ returns c = list-components _ _ _ _ (c .if1 .taken)
 returns-2 : tie.Need-returns-2
 returns-2 c = list-too-long _ _ _ _ (c .before .if1 .left) (c .if2 .taken)
 
-source-of-list-requires : tie.Need-source-of-list-requires
-source-of-list-requires c κs = (omega arith, c .before .if1 .left)
+vertices-in-requires : tie.Need-vertices-in-requires
+vertices-in-requires c κs = (omega arith, omega arith, omega arith, omega arith, c .before .if1 .left)
 
 slice-aggregate-lattice-form : tie.Need-slice-aggregate-lattice-form
 slice-aggregate-lattice-form c = search needs
 
 lattice-form-requires : tie.Need-lattice-form-requires
-lattice-form-requires c κs = let s = c .before .before .before .before .before .before .before .before .before in
-    let e = c .before .before .before .before .source-of-list .ensures in
-    let h = sound-list _ _ 0 (s .args .n) (c .before .before .before .before .before .before .if1 .left) (c .before .before .before .before .before .if2 .left) in
+lattice-form-requires c κs = let s = c .before .before .before .before .before .before .before .before in
+    let e = c .before .before .before .vertices-in .ensures in
+    let h = there-list _ _ 0 (s .args .n) (c .before .before .before .before .before .if1 .left) (c .before .before .before .before .if2 .left) in
     rw e h
 
 same-length : tie.Need-same-length
 same-length c = search needs
 
 returns-3 : tie.Need-returns-3
-returns-3 c = let s = c .before .before .before .before .before .before .before .before .before .before .before .before in
-    let e = c .before .before .before .before .before .before .before .source-of-list .ensures in
-    list5-ended _ _ (s .args .n) _ (c .before .before .before .before .before .before .before .before .before .if1 .left) (c .before .before .before .before .before .before .before .before .if2 .left) (s .args .row) (rw e at (c .before .before .lattice-form .ensures))
+returns-3 c = let s = c .before .before .before .before .before .before .before .before .before .before .before in
+    let e = c .before .before .before .before .before .before .vertices-in .ensures in
+    list5-ended _ _ (s .args .n) _ (c .before .before .before .before .before .before .before .before .if1 .left) (c .before .before .before .before .before .before .before .if2 .left) (s .args .row) (rw e at (c .before .before .lattice-form .ensures))
 
 pub build-type5-spec : {M : Type 1} → statement M
 build-type5-spec =
@@ -38,7 +38,7 @@ build-type5-spec =
     (tie.spec
     returns
     returns-2
-    source-of-list-requires
+    vertices-in-requires
     slice-aggregate-lattice-form
     lattice-form-requires
     same-length

@@ -2,17 +2,17 @@
 use Prim.Native.Nat.{_-_}
 use mathlib.Core.Path.{sym, _∙_}
 use native.Mathlib.Omega.{arith}
-use Rattle.triangles.specs.Sources.{flagIn, trianglesIn}
+use Rattle.triangles.specs.Inner.Vertices.{flagOfVertex, trianglesIn}
 use Rattle.triangles.proofs.Counting.{Counting, counting-start, counting-first, counting-cut, counting-end, counting-alone, counting-far, counting-joined}
 use borrow.Author.Needs.{needs}
 use Rattle.triangles.proofs.free_form.count_triangles.Statement.{statement}
 use Rattle.triangles.proofs.free_form.count_triangles.Tie as tie
 
 abbrev Inv-loop : tie.InvT-loop
-Inv-loop «data» values source total count₀ i₀ count i = Counting (flagIn source «data» values) (source .total) count i
+Inv-loop «data» values vertices total count₀ i₀ count i = Counting (flagOfVertex vertices «data» values) (vertices .total) count i
 
 abbrev μ-loop : tie.MeasureT-loop
-μ-loop «data» values source total count₀ i₀ count i = total - i
+μ-loop «data» values vertices total count₀ i₀ count i = total - i
 
 loop-holds : tie.Need-loop-holds Inv-loop μ-loop
 loop-holds c = counting-start _ _

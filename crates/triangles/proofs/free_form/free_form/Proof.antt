@@ -2,7 +2,7 @@
 use mathlib.Core.Path.{_∙_}
 use native.Mathlib.Omega.{arith}
 use Rattle.answers.proofs.Outcomes.{no-room, all-written}
-use Rattle.triangles.proofs.Sources.{length-in, numbers-small}
+use Rattle.triangles.proofs.Rows.{length-in, numbers-small}
 use Rattle.triangles.proofs.Writing.{length-mesh, same-count}
 use borrow.Author.Needs.{needs}
 use Rattle.triangles.proofs.free_form.free_form.Statement.{statement}
@@ -23,7 +23,7 @@ mul-if1-2 c = omega (arith, numbers-small (c .before .before .before .before .be
 returns : tie.Need-returns
 returns c = let s = c .before .before .before .before .before .before in
     let e = c .before .before .count-triangles .ensures .0 ∙ same-count (s .args .last-three) _ _ _ in
-    no-room _ _ (length-mesh _ _ (length-in (s .args .source) _ _ _) _) (rw e at (c .if1 .taken))
+    no-room _ _ (length-mesh _ _ (length-in (s .args .vertices) _ _ _) _) (rw e at (c .if1 .taken))
 
 write-triangles-requires : tie.Need-write-triangles-requires
 write-triangles-requires c κs = let s = c .before .before .before .before .before .before .before in

@@ -5,24 +5,24 @@ use mathlib.Core.Bool.{Bool}
 use mathlib.Core.List.{List}
 use native.Mathlib.Omega.{arith}
 use lib.Ieee.{Float}
-use Rattle.rows.specs.Placing.{listed}
-use Rattle.triangles.specs.declared.vertices.Source.{Source}
-use Rattle.triangles.specs.Sources.{flagIn, rowIn, trianglesIn}
-use Rattle.triangles.proofs.Sources.{length-in}
+use Rattle.rows.specs.Inner.Layouts.{heldRanges}
+use Rattle.triangles.specs.declared.vertices.Vertices.{Vertices}
+use Rattle.triangles.specs.Inner.Vertices.{flagOfVertex, rowOfVertex, trianglesIn}
+use Rattle.triangles.proofs.Rows.{length-in}
 use Rattle.triangles.proofs.Writing.{Writing, Ready, writing-start, first-room, first-done, cut-short, all-done, joined-ready, side-before, joined-done, dropped-alone, dropped-far}
 use Rattle.triangles.proofs.free_form.write_triangles.Statement.{statement}
 use Rattle.triangles.proofs.free_form.write_triangles.Tie as tie
 
 -- the rows of the triangles so far
-abbrev Wrote : Source → List ℕ → List Float → List Float → List Float → Bool → List Float → List Float → ℕ → ℕ → ℕ → Type 0
-Wrote v s vs mins scales last =
-    Writing (rowIn v s vs (listed mins scales)) (v .n + 10) (length-in v s vs (listed mins scales)) last (flagIn v s vs) (v .total)
+abbrev Wrote : Vertices → List ℕ → List Float → List Float → Bool → List Float → List Float → ℕ → ℕ → ℕ → Type 0
+Wrote v s vs ranges last =
+    Writing (rowOfVertex v s vs (heldRanges ranges)) (v .layout .n + 10) (length-in v s vs (heldRanges ranges)) last (flagOfVertex v s vs) (v .total)
 
 abbrev Inv-loop : tie.InvT-loop
-Inv-loop «data» values source mins scales last-three out₀ total size first₀ p₀ i₀ out first p i = Wrote source «data» values mins scales last-three out₀ out p i first
+Inv-loop «data» values vertices ranges last-three out₀ total size first₀ p₀ i₀ out first p i = Wrote vertices «data» values ranges last-three out₀ out p i first
 
 abbrev μ-loop : tie.MeasureT-loop
-μ-loop «data» values source mins scales last-three out₀ total size first₀ p₀ i₀ out first p i = source .total - i
+μ-loop «data» values vertices ranges last-three out₀ total size first₀ p₀ i₀ out first p i = vertices .total - i
 
 ready : (c : tie.Then4 Inv-loop μ-loop) → Ready _ _ _ _ _ _ (c .before .before .before .before .before .loop .inv)
 unfolding trianglesIn

@@ -4,23 +4,23 @@ use mathlib.Core.List.{List}
 use native.Mathlib.Omega.{arith}
 use lib.Ieee.{Float}
 use borrow.Author.Tests.{ltb-true}
-use Rattle.rows.specs.Placing.{listed}
-use Rattle.triangles.specs.declared.vertices.Source.{Source}
-use Rattle.triangles.specs.Sources.{rowIn}
-use Rattle.triangles.proofs.Sources.{length-in, total-small}
+use Rattle.rows.specs.Inner.Layouts.{heldRanges}
+use Rattle.triangles.specs.declared.vertices.Vertices.{Vertices}
+use Rattle.triangles.specs.Inner.Vertices.{rowOfVertex}
+use Rattle.triangles.proofs.Rows.{length-in, total-small}
 use Rattle.triangles.proofs.Cells.{Cells, cells-start, band-enough, cells-enough, cells-place, cells-room, cells-more, cells-done, stands-or, stands-above, stands-left, stands-below}
 use Rattle.triangles.proofs.lattice_form.write_cells.Statement.{statement}
 use Rattle.triangles.proofs.lattice_form.write_cells.Tie as tie
 
 -- so many cells of the row
-abbrev Wrote : Source → List ℕ → List Float → List Float → List Float → List Float → List Float → ℕ → ℕ → ℕ → ℕ → ℕ → Type 0
-Wrote v s vs mins scales = Cells (rowIn v s vs (listed mins scales)) (v .n + 10) (length-in v s vs (listed mins scales))
+abbrev Wrote : Vertices → List ℕ → List Float → List Float → List Float → List Float → ℕ → ℕ → ℕ → ℕ → ℕ → Type 0
+Wrote v s vs ranges = Cells (rowOfVertex v s vs (heldRanges ranges)) (v .layout .n + 10) (length-in v s vs (heldRanges ranges))
 
 abbrev Inv-loop : tie.InvT-loop
-Inv-loop «data» values source mins scales row first out₀ at size nowhere back p₀ c₀ out p c = Wrote source «data» values mins scales out₀ out at p row first c × (c + 1 ≤ row)
+Inv-loop «data» values vertices ranges row first out₀ at size nowhere back p₀ c₀ out p c = Wrote vertices «data» values ranges out₀ out at p row first c × (c + 1 ≤ row)
 
 abbrev μ-loop : tie.MeasureT-loop
-μ-loop «data» values source mins scales row first out₀ at size nowhere back p₀ c₀ out p c = row - c
+μ-loop «data» values vertices ranges row first out₀ at size nowhere back p₀ c₀ out p c = row - c
 
 add-size : tie.Need-add-size Inv-loop μ-loop
 add-size c = omega (arith, c .before .before .before .before .pre .0 .few)
@@ -38,13 +38,16 @@ mul-back-3 : tie.Need-mul-back-3 Inv-loop μ-loop
 mul-back-3 c = omega (arith, c .before .before .before .before .pre .0 .few)
 
 sub-back-2 : tie.Need-sub-back-2 Inv-loop μ-loop
-sub-back-2 c = omega (arith, band-enough (c .before .before .before .before .args .source .n + 10) (c .before .before .before .before .pre .1))
+sub-back-2 c = omega (arith, band-enough (c .before .before .before .before .args .vertices .layout .n + 10) (c .before .before .before .before .pre .1))
 
 loop-holds : tie.Need-loop-holds Inv-loop μ-loop
 loop-holds c = let s = c .before .before .before .before in (cells-start _ _ _ _ _ _ _ (omega (arith, s .pre .3)), omega (arith, s .pre .1))
 
 add-loop : tie.Need-add-loop Inv-loop μ-loop
 add-loop c = omega (arith, c .loop .inv .1)
+
+add-i : tie.Need-add-i Inv-loop μ-loop
+add-i c = let s = c .before .before .before .before .before .before in omega (arith, s .pre .2, c .before .loop .inv .1, total-small (s .pre .0))
 
 mul-back-from : tie.Need-mul-back-from Inv-loop μ-loop
 mul-back-from c = omega (arith, c .before .before .before .before .before .before .pre .0 .few)
@@ -60,9 +63,6 @@ mul-back-from-2 c = omega (arith, c .before .before .before .before .before .bef
 
 back-from-requires-3 : tie.Need-back-from-requires-3 Inv-loop μ-loop
 back-from-requires-3 c κs = λ e. omega (arith, cells-enough _ _ _ (c .before .before .before .loop .inv .0) (ltb-true _ _ e))
-
-add-i : tie.Need-add-i Inv-loop μ-loop
-add-i c = let s = c .before .before .before .before .before .before .before .before .before in omega (arith, s .pre .2, c .before .before .before .before .loop .inv .1, total-small (s .pre .0))
 
 write-cell-requires : tie.Need-write-cell-requires Inv-loop μ-loop
 write-cell-requires c κs = let s = c .before .before .before .before .before .before .before .before .before .before in
@@ -105,12 +105,12 @@ write-cells-spec =
     sub-back-2
     loop-holds
     add-loop
+    add-i
     mul-back-from
     back-from-requires
     back-from-requires-2
     mul-back-from-2
     back-from-requires-3
-    add-i
     write-cell-requires
     add-c
     loop-less

@@ -5,23 +5,23 @@ use mathlib.Core.List.{List}
 use native.Mathlib.Omega.{arith}
 use native.Mathlib.Nat.{mul-le-mul-right}
 use lib.Ieee.{Float}
-use Rattle.rows.specs.Placing.{listed}
-use Rattle.triangles.specs.declared.vertices.Source.{Source}
-use Rattle.triangles.specs.Sources.{rowIn}
-use Rattle.triangles.proofs.Sources.{length-in, total-small}
+use Rattle.rows.specs.Inner.Layouts.{heldRanges}
+use Rattle.triangles.specs.declared.vertices.Vertices.{Vertices}
+use Rattle.triangles.specs.Inner.Vertices.{rowOfVertex}
+use Rattle.triangles.proofs.Rows.{length-in, total-small}
 use Rattle.triangles.proofs.Cells.{Bands, bands-start, bands-room, bands-more, bands-above}
 use Rattle.triangles.proofs.lattice_form.write_lattice.Statement.{statement}
 use Rattle.triangles.proofs.lattice_form.write_lattice.Tie as tie
 
 -- so many rows of cells
-abbrev Wrote : Source → List ℕ → List Float → List Float → List Float → List Float → List Float → ℕ → ℕ → ℕ → ℕ → Type 0
-Wrote v s vs mins scales = Bands (rowIn v s vs (listed mins scales)) (v .n + 10) (length-in v s vs (listed mins scales))
+abbrev Wrote : Vertices → List ℕ → List Float → List Float → List Float → List Float → ℕ → ℕ → ℕ → ℕ → Type 0
+Wrote v s vs ranges = Bands (rowOfVertex v s vs (heldRanges ranges)) (v .layout .n + 10) (length-in v s vs (heldRanges ranges))
 
 abbrev Inv-loop : tie.InvT-loop
-Inv-loop «data» values source mins scales row rows out₀ p₀ first₀ r₀ out p first r = Wrote source «data» values mins scales out₀ out p row first r × (r ≤ rows - 1)
+Inv-loop «data» values vertices ranges row rows out₀ p₀ first₀ r₀ out p first r = Wrote vertices «data» values ranges out₀ out p row first r × (r ≤ rows - 1)
 
 abbrev μ-loop : tie.MeasureT-loop
-μ-loop «data» values source mins scales row rows out₀ p₀ first₀ r₀ out p first r = rows - r
+μ-loop «data» values vertices ranges row rows out₀ p₀ first₀ r₀ out p first r = rows - r
 
 -- the next two rows of vertices are there
 inside : (r row : ℕ) {first rows total : ℕ} → first ≡ r * row → r + 1 < rows → rows * row ≤ total → first + 2 * row ≤ total

@@ -1,7 +1,7 @@
--- `triangles::vertices::write_row` meets its contract: a row that stands in `out` is copied, any other is placed. Assumes nothing.
+-- `triangles::lattice_form::write_row` meets its contract: a row that stands in `out` is copied, any other is placed. Assumes nothing.
 use borrow.Author.Needs.{needs}
-use Rattle.triangles.proofs.vertices.write_row.Statement.{statement}
-use Rattle.triangles.proofs.vertices.write_row.Tie as tie
+use Rattle.triangles.proofs.lattice_form.write_row.Statement.{statement}
+use Rattle.triangles.proofs.lattice_form.write_row.Tie as tie
 
 copy-row-requires : tie.Need-copy-row-requires
 copy-row-requires c κs = let a = c .before .before .before .before .before in let h = a .pre .3 (c .before .if1 .taken) in (a .pre .0 .few, h .before, a .pre .2)

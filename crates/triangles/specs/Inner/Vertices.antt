@@ -1,0 +1,86 @@
+-- What the inner functions promise one another of the vertices that they read and of their rows.
+use Prim.Native.Nat.{ℕ, _+_, _-_, _*_, _/_, _≤_}
+use mathlib.Core.Path.{_≡_}
+use mathlib.Core.Bool.{Bool, true, false, cond}
+use mathlib.Core.List.{List, [], _∷_, _++_}
+use lib.Dec.{ltb}
+use lib.ListN.{length}
+use lib.Ieee.{Float, nan}
+use Rattle.lists.specs.Lists.{joined, part}
+use Rattle.answers.specs.Limits.{mostComponents, mostBytes, mostNumbers}
+use Rattle.decode.specs.Decode.{Ranges}
+use Rattle.colour.specs.Inner.Places.{vertexAt}
+use Rattle.rows.specs.declared.Layout.{Layout}
+use Rattle.rows.specs.declared.Vertex.{Vertex}
+use Rattle.rows.specs.Inner.Layouts.{numbersOf, flagIn}
+use Rattle.rows.specs.Inner.Placing.{tenNumbers}
+use Rattle.rules.specs.Triangles.{Tri, Rule, triangleBefore, lastThree, triangles}
+use Rattle.triangles.specs.declared.vertices.Vertices.{Vertices}
+
+-- ---- the vertices
+
+-- as many vertices as so many places hold
+abbrev pub verticesIn : Layout → ℕ → Vertices
+verticesIn L limit =
+    let size : ℕ = L .flag + (2 * L .coord + L .n * L .comp) in
+    record { layout = L; size = size; total = limit / size }
+
+-- the vertices stand whole in bits, or in a list
+pub record InBits (v : Vertices) (s : List ℕ) : Type 0 where
+  pub coord-some : 1 ≤ v .layout .coord
+  pub coord-few : v .layout .coord ≤ 32
+  pub comp-some : 1 ≤ v .layout .comp
+  pub comp-few : v .layout .comp ≤ 32
+  pub whole : v .total * v .size ≤ 8 * length s
+  pub short : length s ≤ mostBytes
+
+pub record InList (v : Vertices) (vs : List Float) : Type 0 where
+  pub coord-one : v .layout .coord ≡ 1
+  pub comp-one : v .layout .comp ≡ 1
+  pub whole : v .total * v .size ≤ length vs
+  pub short : length vs ≤ mostNumbers
+
+pub record VerticesThere (v : Vertices) (s : List ℕ) (vs : List Float) : Type 0 where
+  pub few : v .layout .n ≤ mostComponents
+  pub sized : v .size ≡ v .layout .flag + (2 * v .layout .coord + v .layout .n * v .layout .comp)
+  pub in-bits : v .layout .listed ≡ false → InBits v s
+  pub in-list : v .layout .listed ≡ true → InList v vs
+
+-- each vertex begins with a flag
+pub record Flagged (v : Vertices) : Type 0 where
+  pub some-bits : 1 ≤ v .layout .flag
+  pub few-bits : v .layout .flag ≤ 32
+
+-- the flag and the row of vertex i
+unfoldable pub flagOfVertex : Vertices → List ℕ → List Float → ℕ → ℕ
+flagOfVertex v s vs i = flagIn (v .layout) s vs (i * v .size)
+
+unfoldable pub rowOfVertex : Vertices → List ℕ → List Float → Ranges → ℕ → List Float
+rowOfVertex v s vs R i =
+    vertexAt (numbersOf (v .layout) s vs R) (v .layout .coord) (v .layout .comp) (v .layout .n) (i * v .size + v .layout .flag)
+
+-- the Type 4 triangles, by one of the two rules
+abbrev pub ruleOf : Bool → Rule
+ruleOf keepsLastThree = cond keepsLastThree lastThree triangleBefore
+
+unfoldable pub trianglesIn : Bool → Vertices → List ℕ → List Float → List Tri
+trianglesIn keepsLastThree v s vs = triangles (ruleOf keepsLastThree) (joined (v .total) (λ (i : ℕ). flagOfVertex v s vs i ∷ []))
+
+-- ---- rows in the output
+
+-- a row of so many numbers stands in the output before index at
+pub record RowStands (out : List Float) (from size at : ℕ) (row : List Float) : Type 0 where
+  pub before : from + size ≤ at
+  pub held : part nan out from size ≡ row
+
+-- the row of a vertex, whose n components stand in the output beside the ten places from index at on
+abbrev pub rowBeside : List Float → ℕ → ℕ → Vertex → List Float
+rowBeside o at n v = tenNumbers v ++ part nan o (at + 10) n
+
+-- the two rows of the side by which a vertex is joined, where index side is before index at: the one that stands there, and the one right before at
+unfoldable pub sharedRows : List Float → ℕ → ℕ → ℕ → List Float
+sharedRows o side size at = cond (ltb side at) (part nan o side size ++ part nan o (at - size) size) []
+
+-- where the row of the vertex itself begins
+abbrev pub rowIndex : ℕ → ℕ → ℕ → ℕ
+rowIndex side size at = cond (ltb side at) (at + 2 * size) at
