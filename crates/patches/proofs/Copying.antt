@@ -10,14 +10,14 @@ use lib.Ieee.{Float, nan}
 use Rattle.lists.specs.Lists.{All, AllBelow, flat}
 use Rattle.lists.specs.Writing.{Written}
 use Rattle.lists.proofs.Writing.{written-then, part-before}
-use Rattle.rows.specs.Rows.{Ranges}
+use Rattle.decode.specs.Decode.{Ranges}
 use Rattle.rules.specs.Patches.{Places, Table}
-use Rattle.rules.specs.Properties.{Fits}
+use Rattle.rules.specs.Inner.Sides.{Fits}
 use Rattle.rules.proofs.Lists.{all-map}
-use Rattle.patches.specs.declared.finding.Mesh.{Mesh}
+use Rattle.patches.specs.declared.finding.Records.{Records}
 use Rattle.patches.specs.declared.sides.Side.{Side}
-use Rattle.patches.specs.Forms.{placesOf, TakenSide}
-use Rattle.patches.specs.Source.{pointsFrom, coloursFrom, pointIn, colourIn, withSide, rowAt}
+use Rattle.patches.specs.Inner.Forms.{placesOf, TakenSide}
+use Rattle.patches.specs.Inner.Records.{pointsFrom, coloursFrom, pointIn, colourIn, withSide, rowAt}
 
 -- ---- four places, and two
 
@@ -76,14 +76,14 @@ side-fits k (x ∷ T) (suc i) side a e = side-fits k T i side (a .1) e
 pub below-more : (k m : ℕ) (l : List ℕ) → k ≤ m → AllBelow k l → AllBelow m l
 below-more k m l h a = all-map _ _ l (λ x b. omega arith) a
 
-module _ (T : Table) (m : Mesh) (s : List ℕ) (vs : List Float) (R : Ranges) (o : List Float) (start pos : ℕ) where
-  pub row-first : pointsFrom m s vs R (4 + m .own) (pos + m .flag) ++ coloursFrom m s vs R 4 (pos + m .flag + (4 + m .own) * (2 * m .coord))
+module _ (T : Table) (m : Records) (s : List ℕ) (vs : List Float) (R : Ranges) (o : List Float) (start pos : ℕ) where
+  pub row-first : pointsFrom m s vs R (4 + m .own) (pos + m .layout .flag) ++ coloursFrom m s vs R 4 (pos + m .layout .flag + (4 + m .own) * (2 * m .layout .coord))
       ≡ rowAt T m s vs R o start 0 pos
   unfolding rowAt
   row-first = refl
 
   pub row-next : (f : ℕ) (side : Side) → 1 ≤ f → TakenSide T f side
-      → withSide m o start (some (placesOf side)) (pointsFrom m s vs R (m .own) (pos + m .flag)) (coloursFrom m s vs R 2 (pos + m .flag + m .own * (2 * m .coord)))
+      → withSide m o start (some (placesOf side)) (pointsFrom m s vs R (m .own) (pos + m .layout .flag)) (coloursFrom m s vs R 2 (pos + m .layout .flag + m .own * (2 * m .layout .coord)))
       ≡ rowAt T m s vs R o start f pos
   unfolding rowAt
   row-next zero side h e = absurd (omega arith)

@@ -1,149 +1,61 @@
--- The records of a mesh, one after the other, whichever source they come from: what the next patch is, and where the mesh ends. Assumes nothing.
+-- The records of a mesh, whichever source they come from, are those of which meshes promises what the next patch is, and where the mesh ends.
+-- Assumes nothing.
 use Prim.Native.Nat.{ℕ, _+_, _*_, _≤_}
-use mathlib.Core.Path.{_≡_, refl, sym, _∙_}
-use mathlib.Core.Bool.{Bool, true, false, cond}
+use mathlib.Core.Path.{_≡_, refl}
+use mathlib.Core.Bool.{Bool, true, false}
 use mathlib.Core.List.{List, [], _∷_}
-use mathlib.Core.Option.{Option, none}
-use native.Mathlib.Omega.{arith}
-use lib.ListN.{length, getD}
-use lib.Ieee.{Float, nan}
-use Rattle.lists.specs.Lists.{flat}
-use Rattle.bits.specs.Bits.{fieldAt}
-use Rattle.decode.specs.Flag.{flagOf}
-use Rattle.colour.specs.Colour.{colourRow}
-use Rattle.records.specs.Format.{rawReading}
-use Rattle.rows.specs.Rows.{Ranges}
-use Rattle.rules.specs.Patches.{Patch, Table, mesh}
-use Rattle.rules.specs.Meshes.{pointsAfter, coloursAfter, sizeAfter, pieces, patches, patchMesh}
+use mathlib.Core.Option.{Option}
+use lib.ListN.{length}
+use lib.Ieee.{Float}
+use Rattle.decode.specs.Decode.{Ranges}
+use Rattle.records.specs.Format.{pointsAfter, coloursAfter}
+use Rattle.rows.specs.declared.Place.{Place}
+use Rattle.rows.specs.Inner.Layouts.{numbersOf, flagIn}
+use Rattle.rules.specs.Patches.{Table, mesh}
 use Rattle.rules.proofs.RawReading.{there}
-use Rattle.rules.proofs.Rows.{length-patchMesh}
-use Rattle.meshes.proofs.PatchNumbers.{length-decoded}
-use Rattle.meshes.specs.Decoded.{decodedPoint, decodedColour}
-use Rattle.meshes.specs.Outcomes.{itself, listed67}
-use Rattle.meshes.proofs.PatchRecords.{RowPiece, Brings, rowOf, rows-count, rows-numbers, highest}
-use Rattle.meshes.proofs.ListedPatches.{listedFrom, colour-sized, listed-record, listed-ends}
-use Rattle.meshes.proofs.ReadPatches.{readFrom, decoded-sized, read-record, read-ends}
-use Rattle.patches.specs.declared.finding.Mesh.{Mesh}
+use Rattle.meshes.proofs.PatchRecords as meshes
+use Rattle.meshes.proofs.PatchRecords.{RowPiece, RowPatch, Brings, highest}
+use Rattle.meshes.proofs.ListedPatches.{records-of-list}
+use Rattle.meshes.proofs.ReadPatches.{records-of-bytes}
+use Rattle.patches.specs.declared.finding.Records.{Records}
 use Rattle.patches.specs.declared.finding.Found.the-variants.{Record, End}
-use Rattle.patches.specs.Source.{Usable, Sound, patchSize, flagAt, sizeOf, foundAt, pointsFrom, coloursFrom, finishedOf}
+use Rattle.patches.specs.Inner.Records.{RecordsThere, sizeOf, foundAt, pointsFrom, coloursFrom, finishedOf}
 use Rattle.patches.proofs.Found.{found-whole, found-none}
 
--- ---- the records from a place on, once there is a patch or not
+-- what the mesh comes to is the mesh of its records
+abbrev pub Kept : Table → Records → List ℕ → List Float → Ranges → Type 0
+Kept T m s vs R =
+    meshes.Records T (m .own) (m .layout .flag) (m .layout .coord) (m .layout .comp) (m .layout .n) (m .limit) (flagIn (m .layout) s vs)
+    (numbersOf (m .layout) s vs R) (finishedOf T m s vs R)
 
-unfoldable pub restOf : Mesh → List ℕ → List Float → Ranges → Bool → ℕ → List RowPiece
-restOf m s vs R started p =
-    cond (m .listed) (listedFrom vs (m .own) (m .n) p) (readFrom (m .own) (m .flag) (m .coord) (m .comp) (m .n) s R started p)
+pub record Promised (T : Table) (m : Records) (s : List ℕ) (vs : List Float) (R : Ranges) : Type 0 where
+  pub kept : Kept T m s vs R
 
-abbrev pub RowPatch : Type 0
-RowPatch = Patch (List Float) (List Float)
+pub promised : {T : Table} {m : Records} {s : List ℕ} {vs : List Float} → RecordsThere m s vs → length T ≡ 3 → (R : Ranges) → Promised T m s vs R
+promised {T} {m} {s} {vs} u three R = record { kept = by-source (m .layout .listed) refl }
+  where
+    by-source : (b : Bool) → m .layout .listed ≡ b → Kept T m s vs R
+    by-source true e =
+        let i = u .in-list e in
+        unfold flagIn numbersOf finishedOf in
+        rw (e, i .0, i .1, i .2, i .3) (records-of-list vs (m .own) (m .layout .n) T three)
+    by-source false e =
+        unfold flagIn numbersOf finishedOf in
+        rw (e, u .in-bits e .0)
+        (records-of-bytes (m .own) (m .layout .flag) (m .layout .coord) (m .layout .comp) (m .layout .n) (u .fair .flag-some) s T R)
 
--- the next record, and its own points and colours as they are written
-abbrev Taken : Mesh → List ℕ → List Float → Ranges → Bool → ℕ → ℕ → ℕ → Type 0
-Taken m s vs R started pos f next =
-    (q : RowPiece) × (restOf m s vs R started pos ≡ q ∷ restOf m s vs R true next)
-    × Brings (m .own) (m .n) f (pointsFrom m s vs R (pointsAfter (m .own) f) (pos + m .flag))
-    (coloursFrom m s vs R (coloursAfter f) (pos + m .flag + pointsAfter (m .own) f * (2 * m .coord))) q
-
-module _ {m : Mesh} {s : List ℕ} {vs : List Float} (u : Usable m s vs) (R : Ranges) where
-  module _ (listed : m .listed ≡ true) where
-    list-flag : (pos : ℕ) → flagAt m s vs pos ≡ flagOf (getD vs pos nan)
-    unfolding flagAt
-    list-flag pos = rw listed
-
-    list-size : (f : ℕ) → sizeOf m f ≡ 1 + sizeAfter (m .own) (m .n) f
-    unfolding sizeOf
-    list-size f = let i = u .in-list listed in rw (i .1, i .2, i .3) (omega arith)
-
-    list-more : (b : Option RowPatch) (pos f next : ℕ) → Record f next ≡ foundAt m s vs (highest b) pos → Taken m s vs R (there b) pos f next
-    unfolding restOf pointsFrom coloursFrom
-    list-more b pos f next e =
-        let w = found-whole m s vs (highest b) pos f next e in
-        let i = u .in-list listed in
-        let n : next ≡ pos + 1 + sizeAfter (m .own) (m .n) f = omega (arith, w .after, list-size f) in
-        let k : pointsAfter (m .own) f * (2 * 1) ≡ 2 * pointsAfter (m .own) f = omega arith in
-        rw (listed, i .1, i .2, n, k)
-        (listed-record vs (m .own) (m .n) pos f (w .flagged ∙ list-flag pos) (omega (arith, w .within)))
-
-    list-ends : (T : Table) → length T ≡ 3 → (b : Option RowPatch) (pos : ℕ) → End ≡ foundAt m s vs (highest b) pos
-        → mesh T b (restOf m s vs R (there b) pos) ≡ []
-    unfolding restOf
-    list-ends T three b pos e =
-        rw listed
-        (listed-ends vs (m .own) (m .n) T three b pos
-        (λ a. omega (arith, u .in-list listed .0, list-flag pos, list-size (flagOf (getD vs pos nan)), rw (list-flag pos) at (found-none m s vs (highest b) pos e (rw (list-flag pos) a)))))
-
-  module _ (read : m .listed ≡ false) where
-    bits-flag : (pos : ℕ) → flagAt m s vs pos ≡ fieldAt s pos (m .flag)
-    unfolding flagAt
-    bits-flag pos = rw read
-
-    bits-more : (b : Option RowPatch) (pos f next : ℕ) → Record f next ≡ foundAt m s vs (highest b) pos → Taken m s vs R (there b) pos f next
-    unfolding restOf pointsFrom coloursFrom sizeOf
-    bits-more b pos f next e =
-        let w = found-whole m s vs (highest b) pos f next e in
-        rw (read, w .after)
-        (read-record (m .own) (m .flag) (m .coord) (m .comp) (m .n) (u .fair .flag-some) s R b pos f (w .flagged ∙ bits-flag pos) (w .allowed)
-        (omega (arith, w .within, w .after, u .in-bits read .0)))
-
-    bits-ends : (T : Table) (b : Option RowPatch) (pos : ℕ) → pos ≤ m .limit → End ≡ foundAt m s vs (highest b) pos
-        → mesh T b (restOf m s vs R (there b) pos) ≡ []
-    unfolding restOf sizeOf mesh
-    bits-ends T b pos h e =
-        let i = u .in-bits read .0 in
-        rw (
-          read,
-          read-ends (m .own) (m .flag) (m .coord) (m .comp) (m .n) (u .fair .flag-some) s R b pos (omega arith)
-              (λ a. omega (arith, rw (bits-flag pos) at (found-none m s vs (highest b) pos e (rw (bits-flag pos) a)))),
-        )
-
-  pub rest-more : (b : Option RowPatch) (pos f next : ℕ) → Record f next ≡ foundAt m s vs (highest b) pos → Taken m s vs R (there b) pos f next
-  rest-more b pos f next e = go (m .listed) refl
-    where
-      go : (t : Bool) → m .listed ≡ t → Taken m s vs R (there b) pos f next
-      go true t = list-more t b pos f next e
-      go false t = bits-more t b pos f next e
+module _ {T : Table} {m : Records} {s : List ℕ} {vs : List Float} {R : Ranges} (w : Promised T m s vs R) where
+  -- the next record, and its own points and colours as they are written
+  pub rest-more : (b : Option RowPatch) (pos f : ℕ) (next : Place) → Record f next ≡ foundAt m s vs (highest b) pos
+      → (q : RowPiece) × (w .kept .from (there b) pos ≡ q ∷ w .kept .from true (next .0))
+      × Brings (m .own) (m .layout .n) f (pointsFrom m s vs R (pointsAfter (m .own) f) (pos + m .layout .flag))
+      (coloursFrom m s vs R (coloursAfter f) (pos + m .layout .flag + pointsAfter (m .own) f * (2 * m .layout .coord))) q
+  unfolding pointsFrom coloursFrom sizeOf
+  rest-more b pos f next e =
+      let h = found-whole m s vs (highest b) pos f next e in
+      rw (h .after) (w .kept .more b pos f (h .flagged) (h .allowed) (rw (h .after) at (h .within)))
 
   -- no patch comes where no record was found
-  pub rest-ends : (T : Table) → length T ≡ 3 → (b : Option RowPatch) (pos : ℕ) → pos ≤ m .limit → End ≡ foundAt m s vs (highest b) pos
-      → mesh T b (restOf m s vs R (there b) pos) ≡ []
-  rest-ends T three b pos h e = go (m .listed) refl
-    where
-      go : (t : Bool) → m .listed ≡ t → mesh T b (restOf m s vs R (there b) pos) ≡ []
-      go true t = list-ends t T three b pos e
-      go false t = bits-ends t T b pos h e
-
--- ---- what the whole mesh comes to
-
-module _ (T : Table) (m : Mesh) (s : List ℕ) (vs : List Float) (R : Ranges) where
-  abbrev whole : List RowPatch
-  whole = mesh T none (restOf m s vs R false 0)
-
-  pub finished-count : finishedOf T m s vs R .count ≡ length whole
-  finished-count = go (m .listed) refl
-    where
-      go : (t : Bool) → m .listed ≡ t → finishedOf T m s vs R .count ≡ length whole
-      go true t = unfold finishedOf restOf listed67 patches listedFrom in rw t (sym (rows-count _ _ T (pieces nan flagOf (m .own) (m .n) vs)))
-      go false t = unfold finishedOf restOf patches readFrom rawReading in rw t (sym (rows-count _ _ T _))
-
-  pub finished-numbers : finishedOf T m s vs R .numbers ≡ flat rowOf whole
-  finished-numbers = go (m .listed) refl
-    where
-      go : (t : Bool) → m .listed ≡ t → finishedOf T m s vs R .numbers ≡ flat rowOf whole
-      go true t = unfold finishedOf restOf listed67 patchMesh patches listedFrom in rw t (sym (rows-numbers _ _ T (pieces nan flagOf (m .own) (m .n) vs)))
-      go false t = unfold finishedOf restOf patchMesh patches readFrom rawReading in rw t (sym (rows-numbers _ _ T _))
-
-  -- each patch takes as many numbers
-  pub finished-length : Sound T m → length (finishedOf T m s vs R .numbers) ≡ finishedOf T m s vs R .count * patchSize m
-  finished-length sound = go (m .listed) refl
-    where
-      go : (t : Bool) → m .listed ≡ t → length (finishedOf T m s vs R .numbers) ≡ finishedOf T m s vs R .count * patchSize m
-      go true t =
-          unfold finishedOf listed67 in
-          rw t
-          (length-patchMesh nan (λ (point : List Float). point) colourRow 2 (8 + m .n) (m .n) (λ x h. h) (colour-sized vs (m .own) (m .n)) T flagOf (m .own)
-          (sound .fits) vs)
-      go false t =
-          unfold finishedOf in
-          rw t
-          (length-patchMesh 0 (decodedPoint R) (decodedColour R) 2 (8 + m .n) (m .n) (λ x h. length-decoded R 0 x ∙ h)
-          (decoded-sized (m .own) (m .flag) (m .coord) (m .comp) (m .n) R) T itself (m .own) (sound .fits) _)
+  pub rest-ends : (b : Option RowPatch) (pos : ℕ) → pos ≤ m .limit → End ≡ foundAt m s vs (highest b) pos → mesh T b (w .kept .from (there b) pos) ≡ []
+  unfolding sizeOf
+  rest-ends b pos h e = w .kept .ends b pos h (found-none m s vs (highest b) pos e)

@@ -1,6 +1,6 @@
--- A call that got past its tests has a mesh that can be walked, and its outcome is that mesh. Assumes nothing.
+-- A call that got past its tests has records that can be walked, and its outcome is their mesh. Assumes nothing.
 use Prim.Native.Nat.{ℕ, _+_, _*_, _≤_}
-use mathlib.Core.Path.{_≡_, refl, sym, ap}
+use mathlib.Core.Path.{_≡_, refl, sym, ap, _∙_}
 use mathlib.Core.Bool.{Bool, true, false, _&&_}
 use mathlib.Core.List.{List}
 use native.Mathlib.Omega.{arith}
@@ -8,45 +8,48 @@ use lib.Dec.{leb}
 use lib.ListN.{length}
 use lib.Ieee.{Float}
 use Rattle.lists.specs.Lists.{All}
+use Rattle.answers.specs.Limits.{mostComponents, mostBytes, mostNumbers}
+use Rattle.decode.specs.Decode.{Ranges, ranges}
 use Rattle.records.specs.declared.layout.FlagWidth.the-variants.{Bits}
 use Rattle.records.specs.Layout.{widthsReadable, layoutReadable}
 use Rattle.records.proofs.Layouts.{Widths, widths-readable}
-use Rattle.rows.specs.Rows.{Ranges, ranges}
-use Rattle.rows.specs.Placing.{listed, Ranged}
-use Rattle.rows.proofs.Listed.{listed-ranges}
+use Rattle.rows.specs.Inner.Layouts.{rangeList, heldRanges}
+use Rattle.rows.proofs.Held.{held-ranges}
 use Rattle.rules.specs.Patches.{sides}
-use Rattle.rules.specs.Properties.{Fits}
+use Rattle.rules.specs.Inner.Sides.{Fits}
+use Rattle.rules.specs.Meshes.{Finished, patchMesh}
 use Rattle.rules.proofs.Tables.{sides-fit}
-use Rattle.rules.specs.Meshes.{patches, patchMesh}
-use Rattle.meshes.specs.Decoded.{decodedPoint, decodedColour}
-use Rattle.meshes.specs.Outcomes.{Stream, Finished, itself, rawOf, patches67, listed67}
-use Rattle.meshes.proofs.PatchRanges.{mesh-alike}
+use Rattle.meshes.specs.Decoded.{byDecode}
+use Rattle.meshes.specs.Outcomes.{fittedMesh, Stream, rawOf}
+use Rattle.meshes.proofs.Endings.{accepted, list-accepted}
+use Rattle.meshes.proofs.Ranges.{patches-alike}
 use Rattle.patches.specs.declared.Form.{Form}
 use Rattle.patches.specs.declared.Form.the-variants.{Coons, Tensor}
 use Rattle.patches.specs.declared.sides.Sides.{Sides}
 use Rattle.patches.specs.declared.sides.Sides.the-variants.{Border, Grid}
-use Rattle.patches.specs.declared.finding.Mesh.{Mesh}
-use Rattle.patches.specs.Forms.{kindOf, ownOf, tableOf}
-use Rattle.patches.specs.Source.{Usable, Sound, finishedOf}
+use Rattle.patches.specs.declared.finding.Records.{Records}
+use Rattle.patches.specs.Inner.Forms.{typeOfForm, ownOf, tableOf, parsedForm, builtForm}
+use Rattle.patches.specs.Inner.Records.{RecordsThere, Suits, finishedOf}
 
--- ---- the mesh of a call
+-- ---- the records of a call
 
-abbrev pub listMesh : ℕ → ℕ → List Float → Mesh
-listMesh own n vs = record { listed = true; flag = 1; coord = 1; comp = 1; own = own; n = n; limit = length vs }
+abbrev pub listRecords : ℕ → ℕ → List Float → Records
+listRecords own n vs = record { layout = record { listed = true; flag = 1; coord = 1; comp = 1; n = n }; own = own; limit = length vs }
 
-abbrev pub bitMesh : ℕ → ℕ → ℕ → ℕ → ℕ → List ℕ → Mesh
-bitMesh flag coord comp own n s = record { listed = false; flag = flag; coord = coord; comp = comp; own = own; n = n; limit = 8 * length s }
+abbrev pub bitRecords : ℕ → ℕ → ℕ → ℕ → ℕ → List ℕ → Records
+bitRecords flag coord comp own n s =
+    record { layout = record { listed = false; flag = flag; coord = coord; comp = comp; n = n }; own = own; limit = 8 * length s }
 
-pub own-few : (form : Form) (own : ℕ) → own ≡ ownOf form → own ≤ 12
+own-few : (form : Form) (own : ℕ) → own ≡ ownOf form → own ≤ 12
 own-few Coons own e = omega arith
 own-few Tensor own e = omega arith
 
 never : {A : Type 0} → true ≡ false → A
 never e = let z : _≡_ {A = ℕ} 0 1 = cc in absurd (omega arith)
 
-pub list-usable : (form : Form) (own n : ℕ) (s : List ℕ) (vs : List Float) → own ≡ ownOf form → n ≤ 32 → length vs ≤ 1048576
-    → Usable (listMesh own n vs) s vs
-list-usable form own n s vs e few short =
+pub list-there : (form : Form) (own n : ℕ) (s : List ℕ) (vs : List Float) → own ≡ ownOf form → n ≤ mostComponents → length vs ≤ mostNumbers
+    → RecordsThere (listRecords own n vs) s vs
+list-there form own n s vs e few short =
     let o = own-few form own e in
     record {
       fair =
@@ -73,9 +76,10 @@ layout-widths flag coord comp entries e = widths-readable flag coord comp (go (w
     go true b e = refl
     go false b e = never (sym e)
 
-pub bits-usable : (form : Form) (flag coord comp own n entries : ℕ) (s : List ℕ) (vs : List Float) → own ≡ ownOf form
-    → layoutReadable coord comp (Bits flag) entries ≡ true → n ≤ 32 → length s ≤ 16777216 → Usable (bitMesh flag coord comp own n s) s vs
-bits-usable form flag coord comp own n entries s vs e lay few short =
+pub bits-there : (form : Form) (flag coord comp own n entries : ℕ) (s : List ℕ) (vs : List Float) → own ≡ ownOf form
+    → layoutReadable coord comp (Bits flag) entries ≡ true → n ≤ mostComponents → length s ≤ mostBytes
+    → RecordsThere (bitRecords flag coord comp own n s) s vs
+bits-there form flag coord comp own n entries s vs e lay few short =
     let o = own-few form own e in
     let w = layout-widths flag coord comp entries lay in
     record {
@@ -101,8 +105,8 @@ three-rows : (table : Sides) → length (tableOf table) ≡ 3
 three-rows Border = refl
 three-rows Grid = refl
 
-pub table-sound : (table : Sides) (form : Form) (m : Mesh) → m .own ≡ ownOf form → All (Fits (4 + ownOf form)) (tableOf table) → Sound (tableOf table) m
-table-sound table form m e fit = record { three = three-rows table; fits = rw e fit }
+pub table-suits : (table : Sides) (form : Form) (m : Records) → m .own ≡ ownOf form → All (Fits (4 + ownOf form)) (tableOf table) → Suits (tableOf table) m
+table-suits table form m e fit = record { three = three-rows table; fits = rw e fit }
 
 pub border-fits : (form : Form) → All (Fits (4 + ownOf form)) sides
 border-fits Coons = sides-fit .0
@@ -110,34 +114,35 @@ border-fits Tensor = sides-fit .1
 
 -- ---- its outcome
 
-pub list-finished : (table : Sides) (form : Form) (own n : ℕ) (s : List ℕ) (vs : List Float) (R : Ranges) → own ≡ ownOf form
-    → finishedOf (tableOf table) (listMesh own n vs) s vs R ≡ listed67 (tableOf table) (ownOf form) n vs
-unfolding finishedOf
-list-finished table form own n s vs R e = rw e
+pub list-outcome : (table : Sides) (form : Form) (own n : ℕ) (s : List ℕ) (vs entry : List Float) (R : Ranges) → own ≡ ownOf form
+    → n ≤ mostComponents → length vs ≤ mostNumbers
+    → fittedMesh (finishedOf (tableOf table) (listRecords own n vs) s vs R) (length entry) ≡ builtForm form table vs n (length entry)
+unfolding builtForm finishedOf
+list-outcome table form own n s vs entry R e few short =
+    rw e (sym (list-accepted (patchMesh (tableOf table) (ownOf form)) n vs entry few short))
 
-abbrev pub streamOf : Form → ℕ → ℕ → ℕ → List Float → ℕ → Stream
+abbrev streamOf : Form → ℕ → ℕ → ℕ → List Float → ℕ → Stream
 streamOf form coord comp flag entries n =
-    record { kind = kindOf form; flag = Bits flag; coord = coord; comp = comp; entries = entries; n = n }
+    record { kind = typeOfForm form; flag = Bits flag; coord = coord; comp = comp; entries = entries; n = n }
 
-module _ (own flag coord comp n : ℕ) (entries : List Float) (s : List ℕ) (vs mins scales : List Float) (few : n ≤ 32)
-    (r : Ranged entries coord comp mins scales) where
-  same : (k : ℕ) (xs : List ℕ) → All (Fits (4 + k)) sides
-      → _≡_ {A = Finished}
-      (record {
-        count = length (patches 0 sides itself k n xs);
-        numbers = patchMesh 0 (decodedPoint (listed mins scales)) (decodedColour (listed mins scales)) sides itself k n xs;
-      })
-      (record {
-        count = length (patches 0 sides itself k n xs);
-        numbers = patchMesh 0 (decodedPoint (ranges entries coord comp)) (decodedColour (ranges entries coord comp)) sides itself k n xs;
-      })
-  same k xs fit =
-      ap (λ (ys : List Float). record { count = length (patches 0 sides itself k n xs); numbers = ys })
-      (mesh-alike (listed mins scales) (ranges entries coord comp) n (λ k h. listed-ranges r k (omega arith)) sides k fit xs)
+module _ (flag coord comp n : ℕ) (entries : List Float) (s : List ℕ) (vs entry : List Float)
+    (lay : layoutReadable coord comp (Bits flag) (length entries) ≡ true) (few : n ≤ mostComponents) (short : length s ≤ mostBytes) where
+  -- the ranges of the list are Decode's, as far as a record has kinds
+  same : (own : ℕ) (xs : List ℕ) → All (Fits (4 + own)) sides
+      → patchMesh sides own (byDecode (heldRanges (rangeList entries coord comp))) n xs ≡ patchMesh sides own (byDecode (ranges entries coord comp)) n xs
+  same own xs fit =
+      patches-alike (heldRanges (rangeList entries coord comp)) (ranges entries coord comp) n (λ k h. held-ranges entries coord comp k (omega arith))
+      sides own fit xs
 
-  pub bits-finished : (form : Form) → own ≡ ownOf form
-      → finishedOf sides (bitMesh flag coord comp own n s) s vs (listed mins scales)
-      ≡ patches67 sides (ownOf form) (streamOf form coord comp flag entries n) (rawOf (streamOf form coord comp flag entries n) s)
-  unfolding finishedOf patches67
-  bits-finished Coons e = rw e (same 8 (rawOf (streamOf Coons coord comp flag entries n) s) (sides-fit .0))
-  bits-finished Tensor e = rw e (same 12 (rawOf (streamOf Tensor coord comp flag entries n) s) (sides-fit .1))
+  pub bits-outcome : (form : Form) (own : ℕ) → own ≡ ownOf form
+      → fittedMesh (finishedOf sides (bitRecords flag coord comp own n s) s vs (heldRanges (rangeList entries coord comp))) (length entry)
+      ≡ parsedForm form s coord comp flag entries n (length entry)
+  unfolding parsedForm finishedOf
+  bits-outcome Coons own e =
+      rw e
+      (ap (λ (M : Finished Float). fittedMesh M (length entry)) (same 8 (rawOf (streamOf Coons coord comp flag entries n) s) (sides-fit .0))
+      ∙ sym (accepted (streamOf Coons coord comp flag entries n) (patchMesh sides 8) s entry lay few short))
+  bits-outcome Tensor own e =
+      rw e
+      (ap (λ (M : Finished Float). fittedMesh M (length entry)) (same 12 (rawOf (streamOf Tensor coord comp flag entries n) s) (sides-fit .1))
+      ∙ sym (accepted (streamOf Tensor coord comp flag entries n) (patchMesh sides 12) s entry lay few short))

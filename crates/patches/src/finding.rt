@@ -1,41 +1,22 @@
-// The records of a mesh, one after the other: in bits, or in a list of numbers. A place is a bit or an index of the list.
+// The records of a mesh, one after the other: in bits, or in a list of numbers.
 ghost use mathlib.Core.Path.{_≡_};
 ghost use Prim.Native.Nat.{_+_, _*_, _<_, _≤_};
-ghost use Rattle.rules.specs.Meshes.{pointsAfter, coloursAfter};
-ghost use Rattle.patches.specs.Source.{Fair, Usable, flagAt, sizeOf, recordAt, foundAt};
-use bits::BitPos;
-use bits::BitRead;
+ghost use Rattle.records.specs.Format.{pointsAfter, coloursAfter};
+ghost use Rattle.patches.specs.Inner.Records.{Fair, RecordsThere, sizeOf, recordAt, foundAt};
+use rows::Layout;
+use rows::Place;
 
-// Where the records come from, how many places a flag, a coordinate and a component take (in a list one each), how many points a joined patch
-// has of its own, how many components a colour has, and how many places there are.
-pub struct Mesh {
-    pub listed: bool,
-    pub flag: usize,
-    pub coord: usize,
-    pub comp: usize,
+// How the records stand, how many points a joined patch has of its own, and how many places there are.
+pub struct Records {
+    pub layout: Layout,
     pub own: usize,
-    pub n: usize,
     pub limit: usize,
 }
 
 // What stands at a place: a complete record with its flag, and the place after it; or the end of the mesh.
 pub enum Found {
-    Record(usize, usize),
+    Record(usize, Place),
     End,
-}
-
-// The flag at a place.
-fn flag_at(data: &[u8], values: &[f64], mesh: Mesh, pos: usize) -> usize
-    requires { ⌜ (Usable mesh (now «data») (now values)) × (pos + mesh .flag ≤ mesh .limit) ⌝ }
-    ensures { λ r. ⌜ r ≡ flagAt mesh (now («data» .entry)) (now (values .entry)) pos ⌝ }
-{
-    if mesh.listed {
-        return decode::flag_of(values[pos]) as usize;
-    }
-    let BitRead::Number(flag, _) = bits::read_seldom(data, BitPos(pos), mesh.flag) else {
-        return 0;
-    };
-    flag as usize
 }
 
 // How many points and colours follow a flag.
@@ -54,42 +35,50 @@ pub fn colours_after(flag: usize) -> usize
 }
 
 // How many places a record with a flag takes.
-fn record_size(mesh: Mesh, flag: usize) -> usize
-    requires { ⌜ Fair mesh ⌝ }
-    ensures { λ r. ⌜ (r ≡ sizeOf mesh flag) × (r ≤ 8192) ⌝ }
+fn record_size(records: Records, flag: usize) -> usize
+    requires { ⌜ Fair records ⌝ }
+    ensures { λ r. ⌜ (r ≡ sizeOf records flag) × (r ≤ 8192) ⌝ }
 {
-    let points = points_after(mesh.own, flag);
+    let layout = records.layout;
+    let points = points_after(records.own, flag);
     let colours = colours_after(flag);
-    mesh.flag + (points * (2 * mesh.coord) + colours * (mesh.n * mesh.comp))
+    layout.flag + (points * (2 * layout.coord) + colours * (layout.n * layout.comp))
 }
 
 // The record at a place that has the given flag, if it is complete.
-fn record_at(mesh: Mesh, flag: usize, pos: usize) -> Found
-    requires { ⌜ (Fair mesh) × (pos ≤ mesh .limit) ⌝ }
-    ensures { λ r. ⌜ r ≡ recordAt mesh flag pos ⌝ }
+fn record_at(records: Records, flag: usize, place: Place) -> Found
+    requires { ⌜ (Fair records) × (place .0 ≤ records .limit) ⌝ }
+    ensures { λ r. ⌜ r ≡ recordAt records flag (place .0) ⌝ }
 {
-    let next = pos + record_size(mesh, flag);
-    if next > mesh.limit {
+    let next = place.0 + record_size(records, flag);
+    if next > records.limit {
         return Found::End; // the record is not complete
     }
-    Found::Record(flag, next)
+    Found::Record(flag, Place(next))
 }
 
 // Finds the record at a place, where no flag above most may come: at first 0, once there is a patch 3. The sizes of the two kinds of patch part at a
 // test, so that a machine which guesses the test goes on to the next record before the flag is there.
-pub fn find_record(data: &[u8], values: &[f64], mesh: Mesh, most: usize, pos: usize) -> Found
-    requires { ⌜ (Usable mesh (now «data») (now values)) × (pos ≤ mesh .limit) ⌝ }
-    ensures { λ r. ⌜ r ≡ foundAt mesh (now («data» .entry)) (now (values .entry)) most pos ⌝ }
+pub fn find_record(
+    data: &[u8],
+    values: &[f64],
+    records: Records,
+    most: usize,
+    place: Place,
+) -> Found
+    requires { ⌜ (RecordsThere records (now «data») (now values)) × (place .0 ≤ records .limit) ⌝ }
+    ensures { λ r. ⌜ r ≡ foundAt records (now («data» .entry)) (now (values .entry)) most (place .0) ⌝ }
 {
-    if mesh.limit - pos < mesh.flag {
+    let layout = records.layout;
+    if records.limit - place.0 < layout.flag {
         return Found::End;
     }
-    let flag = flag_at(data, values, mesh, pos);
+    let flag = rows::flag_at(data, values, layout, place) as usize;
     if flag == 0 {
-        return record_at(mesh, 0, pos);
+        return record_at(records, 0, place);
     }
     if flag > most {
         return Found::End;
     }
-    record_at(mesh, flag, pos)
+    record_at(records, flag, place)
 }

@@ -6,14 +6,15 @@ ghost use Prim.Native.Nat.{_+_};
 ghost use Rattle.lists.specs.Lists.{All};
 ghost use Rattle.answers.specs.Outcome.{Done};
 ghost use Rattle.rules.specs.Patches.{sides, listSides};
-ghost use Rattle.rules.specs.Properties.{Fits};
+ghost use Rattle.rules.specs.Inner.Sides.{Fits};
 ghost use Rattle.meshes.specs.Outcomes.{parse6, parse7, build6, build7};
-ghost use Rattle.patches.specs.Forms.{ownOf, tableOf, parsedForm, builtForm};
-use crate::finding::Mesh;
+ghost use Rattle.patches.specs.Inner.Forms.{ownOf, tableOf, parsedForm, builtForm};
+use crate::finding::Records;
 use crate::sides::Sides;
 use answers::Answer;
 use answers::Refusal;
 use records::layout::FlagWidth;
+use rows::Layout;
 
 mod finding;
 mod sides;
@@ -56,20 +57,21 @@ fn parse_patches(
     if data.len() > answers::MOST_BYTES {
         return Answer::Refused(Refusal::Length);
     }
-    let mut mins = [0.0; 34];
-    let mut scales = [0.0; 34];
-    rows::fill_ranges(decode, coord, comp, &mut mins, &mut scales);
-    let mesh = Mesh {
+    let mut ranges = [0.0; 68];
+    rows::fill_ranges(decode, coord, comp, &mut ranges);
+    let layout = Layout {
         listed: false,
         flag,
         coord,
         comp,
-        own: own_points(form),
         n,
+    };
+    let records = Records {
+        layout,
+        own: own_points(form),
         limit: 8 * data.len(),
     };
-    // and no list where they stand in bits: Decode's entries stand in for one
-    writing::patches(data, decode, mesh, &mins, &scales, Sides::Border, out)
+    writing::patches(data, &decode[0..0], records, &ranges, Sides::Border, out)
 }
 
 fn build_patches(values: &[f64], n: usize, form: Form, sides: Sides, out: &mut [f64]) -> Answer
@@ -82,19 +84,21 @@ fn build_patches(values: &[f64], n: usize, form: Form, sides: Sides, out: &mut [
     if values.len() > answers::MOST_NUMBERS {
         return Answer::Refused(Refusal::Length);
     }
-    // no bits and no ranges are looked at where the records stand in a list
-    let data = [0u8; 1];
-    let ranges = [0.0; 34];
-    let mesh = Mesh {
+    let layout = Layout {
         listed: true,
         flag: 1,
         coord: 1,
         comp: 1,
-        own: own_points(form),
         n,
+    };
+    let records = Records {
+        layout,
+        own: own_points(form),
         limit: values.len(),
     };
-    writing::patches(&data, values, mesh, &ranges, &ranges, sides, out)
+    let none = [0u8; 1];
+    let ranges = [0.0; 68];
+    writing::patches(&none, values, records, &ranges, sides, out)
 }
 
 // ---- from bytes

@@ -1,6 +1,6 @@
 // The sides of the patch before that flags 1, 2 and 3 take over, in two fixed tables.
 ghost use Prim.Native.Nat.{_≤_};
-ghost use Rattle.patches.specs.Forms.{tableOf, TakenSide};
+ghost use Rattle.patches.specs.Inner.Forms.{tableOf, TakenSide};
 
 // By the border of a patch, from corner to corner; or by its grid of points, as the Type 7 list of 000 has it.
 pub enum Sides {

@@ -8,75 +8,23 @@ ghost use lib.ListN.{length};
 ghost use Rattle.lists.specs.Lists.{AllBelow, flat};
 ghost use Rattle.lists.specs.Writing.{Written};
 ghost use Rattle.answers.specs.Outcome.{Done};
-ghost use Rattle.rows.specs.Rows.{Ranges};
-ghost use Rattle.rows.specs.Placing.{listed};
+ghost use Rattle.decode.specs.Decode.{Ranges};
+ghost use Rattle.rows.specs.Inner.Layouts.{heldRanges};
 ghost use Rattle.rules.specs.Patches.{Table};
-ghost use Rattle.rules.specs.Properties.{Fits};
-ghost use Rattle.patches.specs.Forms.{tableOf, placesOf};
-ghost use Rattle.patches.specs.Source.{Usable, Sound, sizeOf, pointsFrom, coloursFrom, patchSize, pointIn, colourIn, withSide, rowAt, finishedOf, fittedOf};
+ghost use Rattle.rules.specs.Inner.Sides.{Fits};
+ghost use Rattle.meshes.specs.Outcomes.{fittedMesh};
+ghost use Rattle.patches.specs.Inner.Forms.{tableOf, placesOf};
+ghost use Rattle.patches.specs.Inner.Records.{RecordsThere, Suits, sizeOf, pointsFrom, coloursFrom, patchSize, pointIn, colourIn, withSide, rowAt, finishedOf};
 use crate::finding::Found;
-use crate::finding::Mesh;
+use crate::finding::Records;
 use crate::finding::find_record;
 use crate::sides::Side;
 use crate::sides::Sides;
 use crate::sides::side_of;
 use answers::Answer;
 use answers::Refusal;
-use bits::BitPos;
-
-// ---- a record's own points and colours
-
-fn place_points(
-    data: &[u8],
-    values: &[f64],
-    mesh: Mesh,
-    mins: &[f64; 34],
-    scales: &[f64; 34],
-    k: usize,
-    from: usize,
-    out: &mut [f64],
-    at: usize,
-) -> usize
-    requires { ⌜ (Usable mesh (now «data») (now values)) × (k ≤ 16) × (from + k * (2 * mesh .coord) ≤ mesh .limit) × (at + 2 * k ≤ length (now out)) ⌝ }
-    ensures { λ r. ⌜ r ≡ at + 2 * k ⌝ }
-    ensures { λ r. ⌜ Written (now (out .entry)) (now (out .exit)) at (pointsFrom mesh (now («data» .entry)) (now (values .entry)) (listed (now (mins .entry)) (now (scales .entry))) k from) r ⌝ }
-{
-    if mesh.listed {
-        return rows::copy_numbers(values, from, 2 * k, out, at);
-    }
-    rows::place_points(data, mesh.coord, mins, scales, k, BitPos(from), out, at)
-}
-
-fn place_colours(
-    data: &[u8],
-    values: &[f64],
-    mesh: Mesh,
-    mins: &[f64; 34],
-    scales: &[f64; 34],
-    k: usize,
-    from: usize,
-    out: &mut [f64],
-    at: usize,
-) -> usize
-    requires { ⌜ (Usable mesh (now «data») (now values)) × (k ≤ 4) × (from + k * (mesh .n * mesh .comp) ≤ mesh .limit) × (at + k * (8 + mesh .n) ≤ length (now out)) ⌝ }
-    ensures { λ r. ⌜ r ≡ at + k * (8 + mesh .n) ⌝ }
-    ensures { λ r. ⌜ Written (now (out .entry)) (now (out .exit)) at (coloursFrom mesh (now («data» .entry)) (now (values .entry)) (listed (now (mins .entry)) (now (scales .entry))) k from) r ⌝ }
-{
-    if mesh.listed {
-        return rows::list_colours(values, mesh.n, k, from, out, at);
-    }
-    rows::place_colours(
-        data,
-        mesh.comp,
-        mesh.n,
-        mins,
-        scales,
-        k,
-        BitPos(from),
-        out,
-        at,
-    )
-}
+use rows::Place;
+use rows::Run;
 
 // ---- the side of the patch before
 
@@ -124,91 +72,100 @@ fn copy_side_colours(out: &mut [f64], start: usize, n: usize, side: Side, at: us
 fn write_first(
     data: &[u8],
     values: &[f64],
-    mesh: Mesh,
-    mins: &[f64; 34],
-    scales: &[f64; 34],
-    from: usize,
+    records: Records,
+    ranges: &[f64; 68],
+    from: Place,
     out: &mut [f64],
     at: usize,
 ) -> usize
-    requires { ⌜ (Usable mesh (now «data») (now values)) × (from + ((4 + mesh .own) * (2 * mesh .coord) + 4 * (mesh .n * mesh .comp)) ≤ mesh .limit) × (at + patchSize mesh ≤ length (now out)) ⌝ }
-    ensures { λ r. ⌜ r ≡ at + patchSize mesh ⌝ }
-    ensures { λ r. ⌜ Written (now (out .entry)) (now (out .exit)) at (pointsFrom mesh (now («data» .entry)) (now (values .entry)) (listed (now (mins .entry)) (now (scales .entry))) (4 + mesh .own) from ++ coloursFrom mesh (now («data» .entry)) (now (values .entry)) (listed (now (mins .entry)) (now (scales .entry))) 4 (from + (4 + mesh .own) * (2 * mesh .coord))) r ⌝ }
+    requires { ⌜ (RecordsThere records (now «data») (now values)) × (from .0 + ((4 + records .own) * (2 * records .layout .coord) + 4 * (records .layout .n * records .layout .comp)) ≤ records .limit) × (at + patchSize records ≤ length (now out)) ⌝ }
+    ensures { λ r. ⌜ r ≡ at + patchSize records ⌝ }
+    ensures { λ r. ⌜ Written (now (out .entry)) (now (out .exit)) at (pointsFrom records (now («data» .entry)) (now (values .entry)) (heldRanges (now (ranges .entry))) (4 + records .own) (from .0) ++ coloursFrom records (now («data» .entry)) (now (values .entry)) (heldRanges (now (ranges .entry))) 4 (from .0 + (4 + records .own) * (2 * records .layout .coord))) r ⌝ }
 {
-    let points = 4 + mesh.own;
-    let p = place_points(data, values, mesh, mins, scales, points, from, out, at);
-    let rest = from + points * (2 * mesh.coord);
-    place_colours(data, values, mesh, mins, scales, 4, rest, out, p)
+    let layout = records.layout;
+    let run = Run {
+        points: 4 + records.own,
+        colours: 4,
+    };
+    rows::place_run(data, values, layout, ranges, run, from, out, at)
 }
 
 // A patch joined to the one that ends at at.
 fn write_next(
     data: &[u8],
     values: &[f64],
-    mesh: Mesh,
-    mins: &[f64; 34],
-    scales: &[f64; 34],
+    records: Records,
+    ranges: &[f64; 68],
     side: Side,
-    from: usize,
+    from: Place,
     out: &mut [f64],
     at: usize,
 ) -> usize
-    requires { ⌜ (Usable mesh (now «data») (now values)) × (Fits (4 + mesh .own) (placesOf side)) × (from + (mesh .own * (2 * mesh .coord) + 2 * (mesh .n * mesh .comp)) ≤ mesh .limit) × (patchSize mesh ≤ at) × (at + patchSize mesh ≤ length (now out)) ⌝ }
-    ensures { λ r. ⌜ r ≡ at + patchSize mesh ⌝ }
-    ensures { λ r. ⌜ Written (now (out .entry)) (now (out .exit)) at (withSide mesh (now (out .entry)) (at - patchSize mesh) (some (placesOf side)) (pointsFrom mesh (now («data» .entry)) (now (values .entry)) (listed (now (mins .entry)) (now (scales .entry))) (mesh .own) from) (coloursFrom mesh (now («data» .entry)) (now (values .entry)) (listed (now (mins .entry)) (now (scales .entry))) 2 (from + mesh .own * (2 * mesh .coord)))) r ⌝ }
+    requires { ⌜ (RecordsThere records (now «data») (now values)) × (Fits (4 + records .own) (placesOf side)) × (from .0 + (records .own * (2 * records .layout .coord) + 2 * (records .layout .n * records .layout .comp)) ≤ records .limit) × (patchSize records ≤ at) × (at + patchSize records ≤ length (now out)) ⌝ }
+    ensures { λ r. ⌜ r ≡ at + patchSize records ⌝ }
+    ensures { λ r. ⌜ Written (now (out .entry)) (now (out .exit)) at (withSide records (now (out .entry)) (at - patchSize records) (some (placesOf side)) (pointsFrom records (now («data» .entry)) (now (values .entry)) (heldRanges (now (ranges .entry))) (records .own) (from .0)) (coloursFrom records (now («data» .entry)) (now (values .entry)) (heldRanges (now (ranges .entry))) 2 (from .0 + records .own * (2 * records .layout .coord)))) r ⌝ }
 {
-    let own = mesh.own;
-    let n = mesh.n;
+    let layout = records.layout;
+    let own = records.own;
+    let n = layout.n;
     let points = (4 + own) * 2;
     let start = at - (points + 4 * (8 + n));
+    let rest = Place(from.0 + own * (2 * layout.coord));
+    let own_points = Run {
+        points: own,
+        colours: 0,
+    };
+    let own_colours = Run {
+        points: 0,
+        colours: 2,
+    };
     let p = copy_side_points(out, start, side, at);
-    let q = place_points(data, values, mesh, mins, scales, own, from, out, p);
+    let q = rows::place_run(data, values, layout, ranges, own_points, from, out, p);
     let r = copy_side_colours(out, start + points, n, side, q);
-    let rest = from + own * (2 * mesh.coord);
-    place_colours(data, values, mesh, mins, scales, 2, rest, out, r)
+    rows::place_run(data, values, layout, ranges, own_colours, rest, out, r)
 }
 
 // The patch of the record at a place.
 fn write_patch(
     data: &[u8],
     values: &[f64],
-    mesh: Mesh,
-    mins: &[f64; 34],
-    scales: &[f64; 34],
+    records: Records,
+    ranges: &[f64; 68],
     sides: Sides,
     flag: usize,
-    pos: usize,
+    place: Place,
     out: &mut [f64],
     at: usize,
 ) -> usize
-    requires { ⌜ (Usable mesh (now «data») (now values)) × (Sound (tableOf sides) mesh) × (flag ≤ 3) × (pos + sizeOf mesh flag ≤ mesh .limit) × (1 ≤ flag → patchSize mesh ≤ at) × (at + patchSize mesh ≤ length (now out)) ⌝ }
-    ensures { λ r. ⌜ Written (now (out .entry)) (now (out .exit)) at (rowAt (tableOf sides) mesh (now («data» .entry)) (now (values .entry)) (listed (now (mins .entry)) (now (scales .entry))) (now (out .entry)) (at - patchSize mesh) flag pos) r ⌝ }
+    requires { ⌜ (RecordsThere records (now «data») (now values)) × (Suits (tableOf sides) records) × (flag ≤ 3) × (place .0 + sizeOf records flag ≤ records .limit) × (1 ≤ flag → patchSize records ≤ at) × (at + patchSize records ≤ length (now out)) ⌝ }
+    ensures { λ r. ⌜ Written (now (out .entry)) (now (out .exit)) at (rowAt (tableOf sides) records (now («data» .entry)) (now (values .entry)) (heldRanges (now (ranges .entry))) (now (out .entry)) (at - patchSize records) flag (place .0)) r ⌝ }
 {
-    let from = pos + mesh.flag;
+    let layout = records.layout;
+    let from = Place(place.0 + layout.flag);
     if flag == 0 {
-        return write_first(data, values, mesh, mins, scales, from, out, at);
+        return write_first(data, values, records, ranges, from, out, at);
     }
     let side = side_of(sides, flag);
-    write_next(data, values, mesh, mins, scales, side, from, out, at)
+    write_next(data, values, records, ranges, side, from, out, at)
 }
 
 // ---- the mesh
 
 // How many patches there are: only flags are read.
-fn count_patches(data: &[u8], values: &[f64], mesh: Mesh) -> usize
-    requires { ⌜ Usable mesh (now «data») (now values) ⌝ }
-    ensures { λ r. ⌜ r ≤ mesh .limit ⌝ }
-    ensures { λ r. ⌜ ((T : Table) (R : Ranges) → Sound T mesh → r ≡ finishedOf T mesh (now («data» .entry)) (now (values .entry)) R .count) ⌝ }
+fn count_patches(data: &[u8], values: &[f64], records: Records) -> usize
+    requires { ⌜ RecordsThere records (now «data») (now values) ⌝ }
+    ensures { λ r. ⌜ r ≤ records .limit ⌝ }
+    ensures { λ r. ⌜ ((T : Table) (R : Ranges) → Suits T records → r ≡ finishedOf T records (now («data» .entry)) (now (values .entry)) R .count) ⌝ }
 {
     let mut count: usize = 0;
-    let mut pos: usize = 0;
+    let mut place = Place(0);
     let mut most: usize = 0;
     loop {
-        let Found::Record(_, next) = find_record(data, values, mesh, most, pos) else {
+        let Found::Record(_, next) = find_record(data, values, records, most, place) else {
             return count;
         };
         count += 1;
-        pos = next;
+        place = next;
         most = 3; // now there is a patch to join
     }
 }
@@ -216,24 +173,23 @@ fn count_patches(data: &[u8], values: &[f64], mesh: Mesh) -> usize
 fn write_patches(
     data: &[u8],
     values: &[f64],
-    mesh: Mesh,
-    mins: &[f64; 34],
-    scales: &[f64; 34],
+    records: Records,
+    ranges: &[f64; 68],
     sides: Sides,
     out: &mut [f64],
 ) -> usize
-    requires { ⌜ (Usable mesh (now «data») (now values)) × (Sound (tableOf sides) mesh) × (length (finishedOf (tableOf sides) mesh (now «data») (now values) (listed (now mins) (now scales)) .numbers) ≤ length (now out)) ⌝ }
-    ensures { λ r. ⌜ Written (now (out .entry)) (now (out .exit)) 0 (finishedOf (tableOf sides) mesh (now («data» .entry)) (now (values .entry)) (listed (now (mins .entry)) (now (scales .entry))) .numbers) r ⌝ }
+    requires { ⌜ (RecordsThere records (now «data») (now values)) × (Suits (tableOf sides) records) × (length (finishedOf (tableOf sides) records (now «data») (now values) (heldRanges (now ranges)) .numbers) ≤ length (now out)) ⌝ }
+    ensures { λ r. ⌜ Written (now (out .entry)) (now (out .exit)) 0 (finishedOf (tableOf sides) records (now («data» .entry)) (now (values .entry)) (heldRanges (now (ranges .entry))) .numbers) r ⌝ }
 {
     let mut at: usize = 0;
-    let mut pos: usize = 0;
+    let mut place = Place(0);
     let mut most: usize = 0; // only a patch joined to no other may come first
     loop {
-        let Found::Record(flag, next) = find_record(data, values, mesh, most, pos) else {
+        let Found::Record(flag, next) = find_record(data, values, records, most, place) else {
             return at;
         };
-        at = write_patch(data, values, mesh, mins, scales, sides, flag, pos, out, at);
-        pos = next;
+        at = write_patch(data, values, records, ranges, sides, flag, place, out, at);
+        place = next;
         most = 3;
     }
 }
@@ -242,20 +198,20 @@ fn write_patches(
 pub fn patches(
     data: &[u8],
     values: &[f64],
-    mesh: Mesh,
-    mins: &[f64; 34],
-    scales: &[f64; 34],
+    records: Records,
+    ranges: &[f64; 68],
     sides: Sides,
     out: &mut [f64],
 ) -> Answer
-    requires { ⌜ (Usable mesh (now «data») (now values)) × (Sound (tableOf sides) mesh) ⌝ }
-    ensures { λ r. ⌜ Done (fittedOf (finishedOf (tableOf sides) mesh (now («data» .entry)) (now (values .entry)) (listed (now (mins .entry)) (now (scales .entry)))) (length (now (out .entry)))) (now (out .entry)) r (now (out .exit)) ⌝ }
+    requires { ⌜ (RecordsThere records (now «data») (now values)) × (Suits (tableOf sides) records) ⌝ }
+    ensures { λ r. ⌜ Done (fittedMesh (finishedOf (tableOf sides) records (now («data» .entry)) (now (values .entry)) (heldRanges (now (ranges .entry)))) (length (now (out .entry)))) (now (out .entry)) r (now (out .exit)) ⌝ }
 {
-    let count = count_patches(data, values, mesh);
-    let size = (4 + mesh.own) * 2 + 4 * (8 + mesh.n);
+    let count = count_patches(data, values, records);
+    let n = records.layout.n;
+    let size = (4 + records.own) * 2 + 4 * (8 + n);
     if count * size > out.len() {
         return Answer::Refused(Refusal::Room);
     }
-    write_patches(data, values, mesh, mins, scales, sides, out);
+    write_patches(data, values, records, ranges, sides, out);
     Answer::Wrote(count)
 }

@@ -1,6 +1,6 @@
 -- `parse_type7_patches` meets its contract: it is `parse_patches` for one type. Assumes nothing.
 use borrow.Author.Needs.{needs}
-use Rattle.patches.specs.Forms.{parsedForm}
+use Rattle.patches.specs.Inner.Forms.{parsedForm}
 use Rattle.patches.proofs.parse_type7_patches.Statement.{statement}
 use Rattle.patches.proofs.parse_type7_patches.Tie as tie
 

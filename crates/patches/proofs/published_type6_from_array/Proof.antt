@@ -1,7 +1,7 @@
 -- `published_type6_from_array` meets its contract: it is `build_patches` for one type and one table. Assumes nothing.
 use borrow.Author.Needs.{needs}
 use Rattle.rules.proofs.Tables.{sides-fit}
-use Rattle.patches.specs.Forms.{builtForm}
+use Rattle.patches.specs.Inner.Forms.{builtForm}
 use Rattle.patches.proofs.published_type6_from_array.Statement.{statement}
 use Rattle.patches.proofs.published_type6_from_array.Tie as tie
 

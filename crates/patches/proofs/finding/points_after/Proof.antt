@@ -3,7 +3,7 @@ use Prim.Native.Nat.{_≤_}
 use mathlib.Core.Path.{sym, ap}
 use native.Mathlib.Omega.{arith}
 use borrow.Author.Needs.{needs}
-use Rattle.rules.specs.Meshes.{pointsAfter}
+use Rattle.records.specs.Format.{pointsAfter}
 use Rattle.patches.proofs.Found.{points-joined}
 use Rattle.patches.proofs.finding.points_after.Statement.{statement}
 use Rattle.patches.proofs.finding.points_after.Tie as tie

@@ -11,10 +11,10 @@ add-next : tie.Need-add-next
 add-next c = search needs
 
 returns : tie.Need-returns
-returns c = simp (← c .before .before .record-size .ensures .0, lt-leb _ _ (c .if1 .taken))
+returns c = simp (← c .before .before .before .record-size .ensures .0, lt-leb _ _ (c .if1 .taken))
 
 returns-2 : tie.Need-returns-2
-returns-2 c = simp (← c .before .before .record-size .ensures .0, le-leb _ _ (c .if1 .left))
+returns-2 c = simp (← c .before .before .before .record-size .ensures .0, le-leb _ _ (c .if1 .left))
 
 pub record-at-spec : {M : Type 1} → statement M
 record-at-spec = tie.close (tie.spec record-size-requires add-next returns returns-2)

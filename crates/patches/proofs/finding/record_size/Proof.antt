@@ -1,7 +1,7 @@
 -- `record_size` meets its contract: the products of a record are small, so the sum does not wrap. Assumes nothing.
 use native.Mathlib.Omega.{arith}
 use borrow.Author.Needs.{needs}
-use Rattle.patches.specs.Source.{sizeOf}
+use Rattle.patches.specs.Inner.Records.{sizeOf}
 use Rattle.patches.proofs.Found.{products}
 use Rattle.patches.proofs.finding.record_size.Statement.{statement}
 use Rattle.patches.proofs.finding.record_size.Tie as tie
@@ -17,66 +17,51 @@ mul-result c = search needs
 
 mul-result-2 : tie.Need-mul-result-2
 mul-result-2 c =
-    let a = c .before .before .before .args in
-    let k = c .before .before .points-after in
     let l = c .before .colours-after in
-    let p = products (k .result) (l .result) (a .mesh .coord) (a .mesh .comp) (a .mesh .n) (omega arith) (omega arith) (omega arith) (omega arith) (omega arith) in
+    let k = c .before .before .points-after in
+    let m = c .before .before .before .before .args .records in
+    let p = products (k .result) (l .result) (m .layout .coord) (m .layout .comp) (m .layout .n) (omega arith) (omega arith) (omega arith) (omega arith) (omega arith) in
     omega arith
 
 mul-result-3 : tie.Need-mul-result-3
 mul-result-3 c =
-    let c2 = c .before .before in
-    let c3 = c2 .before in
-    let c4 = c3 .before in
-    let a = c4 .args in
-    let k = c3 .points-after in
-    let l = c2 .colours-after in
-    let p = products (k .result) (l .result) (a .mesh .coord) (a .mesh .comp) (a .mesh .n) (omega arith) (omega arith) (omega arith) (omega arith) (omega arith) in
+    let l = c .before .before .colours-after in
+    let k = c .before .before .before .points-after in
+    let m = c .before .before .before .before .before .args .records in
+    let p = products (k .result) (l .result) (m .layout .coord) (m .layout .comp) (m .layout .n) (omega arith) (omega arith) (omega arith) (omega arith) (omega arith) in
     omega arith
 
 mul-result-4 : tie.Need-mul-result-4
 mul-result-4 c =
-    let c2 = c .before .before in
-    let c3 = c2 .before in
-    let c4 = c3 .before in
-    let a = c4 .args in
-    let k = c3 .points-after in
-    let l = c2 .colours-after in
-    let p = products (k .result) (l .result) (a .mesh .coord) (a .mesh .comp) (a .mesh .n) (omega arith) (omega arith) (omega arith) (omega arith) (omega arith) in
+    let l = c .before .before .colours-after in
+    let k = c .before .before .before .points-after in
+    let m = c .before .before .before .before .before .args .records in
+    let p = products (k .result) (l .result) (m .layout .coord) (m .layout .comp) (m .layout .n) (omega arith) (omega arith) (omega arith) (omega arith) (omega arith) in
     omega arith
 
 add-result : tie.Need-add-result
 add-result c =
-    let c2 = c .before .before in
-    let c3 = c2 .before in
-    let c4 = c3 .before in
-    let a = c4 .args in
-    let k = c3 .points-after in
-    let l = c2 .colours-after in
-    let p = products (k .result) (l .result) (a .mesh .coord) (a .mesh .comp) (a .mesh .n) (omega arith) (omega arith) (omega arith) (omega arith) (omega arith) in
+    let l = c .before .before .colours-after in
+    let k = c .before .before .before .points-after in
+    let m = c .before .before .before .before .before .args .records in
+    let p = products (k .result) (l .result) (m .layout .coord) (m .layout .comp) (m .layout .n) (omega arith) (omega arith) (omega arith) (omega arith) (omega arith) in
     omega arith
 
 add-result-2 : tie.Need-add-result-2
 add-result-2 c =
-    let c3 = c .before .before .before in
-    let c4 = c3 .before in
-    let c5 = c4 .before in
-    let a = c5 .args in
-    let k = c4 .points-after in
-    let l = c3 .colours-after in
-    let p = products (k .result) (l .result) (a .mesh .coord) (a .mesh .comp) (a .mesh .n) (omega arith) (omega arith) (omega arith) (omega arith) (omega arith) in
+    let l = c .before .before .before .colours-after in
+    let k = c .before .before .before .before .points-after in
+    let m = c .before .before .before .before .before .before .args .records in
+    let p = products (k .result) (l .result) (m .layout .coord) (m .layout .comp) (m .layout .n) (omega arith) (omega arith) (omega arith) (omega arith) (omega arith) in
     omega arith
 
 returns : tie.Need-returns
 unfolding sizeOf
 returns c =
-    let c3 = c .before .before .before in
-    let c4 = c3 .before in
-    let c5 = c4 .before in
-    let a = c5 .args in
-    let k = c4 .points-after in
-    let l = c3 .colours-after in
-    let p = products (k .result) (l .result) (a .mesh .coord) (a .mesh .comp) (a .mesh .n) (omega arith) (omega arith) (omega arith) (omega arith) (omega arith) in
+    let l = c .before .before .before .colours-after in
+    let k = c .before .before .before .before .points-after in
+    let m = c .before .before .before .before .before .before .args .records in
+    let p = products (k .result) (l .result) (m .layout .coord) (m .layout .comp) (m .layout .n) (omega arith) (omega arith) (omega arith) (omega arith) (omega arith) in
     (rw (k .ensures .0, l .ensures .0), omega arith)
 
 pub record-size-spec : {M : Type 1} → statement M

@@ -4,7 +4,7 @@ use native.Mathlib.Omega.{arith}
 use native.Mathlib.Nat.{mul-le-mul-right}
 use borrow.Author.Needs.{needs}
 use Rattle.rows.proofs.Callers.{copy-written}
-use Rattle.patches.specs.Source.{colourIn}
+use Rattle.patches.specs.Inner.Records.{colourIn}
 use Rattle.patches.proofs.writing.copy_colour.Statement.{statement}
 use Rattle.patches.proofs.writing.copy_colour.Tie as tie
 

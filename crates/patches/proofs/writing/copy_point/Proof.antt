@@ -3,7 +3,7 @@ use Prim.Native.Nat.{_+_, _*_}
 use native.Mathlib.Omega.{arith}
 use borrow.Author.Needs.{needs}
 use Rattle.rows.proofs.Callers.{copy-written}
-use Rattle.patches.specs.Source.{pointIn}
+use Rattle.patches.specs.Inner.Records.{pointIn}
 use Rattle.patches.proofs.writing.copy_point.Statement.{statement}
 use Rattle.patches.proofs.writing.copy_point.Tie as tie
 

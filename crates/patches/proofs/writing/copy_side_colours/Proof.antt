@@ -3,7 +3,7 @@ use Prim.Native.Nat.{_<_}
 use native.Mathlib.Omega.{arith}
 use borrow.Author.Needs.{needs}
 use lib.ListN.{getD}
-use Rattle.patches.specs.Source.{colourIn}
+use Rattle.patches.specs.Inner.Records.{colourIn}
 use Rattle.patches.proofs.Copying.{below-at, flat-two, colour-then}
 use Rattle.patches.proofs.writing.copy_side_colours.Statement.{statement}
 use Rattle.patches.proofs.writing.copy_side_colours.Tie as tie

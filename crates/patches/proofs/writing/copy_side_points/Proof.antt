@@ -3,7 +3,7 @@ use Prim.Native.Nat.{_<_}
 use native.Mathlib.Omega.{arith}
 use borrow.Author.Needs.{needs}
 use lib.ListN.{getD}
-use Rattle.patches.specs.Source.{pointIn}
+use Rattle.patches.specs.Inner.Records.{pointIn}
 use Rattle.patches.proofs.Copying.{below-at, flat-four, point-then}
 use Rattle.patches.proofs.writing.copy_side_points.Statement.{statement}
 use Rattle.patches.proofs.writing.copy_side_points.Tie as tie

@@ -3,24 +3,24 @@ use Prim.Native.Nat.{_-_, _≤_}
 use mathlib.Core.Path.{sym, _∙_}
 use native.Mathlib.Omega.{arith}
 use borrow.Author.Needs.{needs}
-use Rattle.rows.specs.Rows.{Ranges}
+use Rattle.decode.specs.Decode.{Ranges}
 use Rattle.rules.specs.Patches.{Table}
-use Rattle.patches.specs.Source.{Sound}
+use Rattle.patches.specs.Inner.Records.{Suits}
 use Rattle.patches.proofs.Walk.{Count, count-start, count-step, count-end}
 use Rattle.patches.proofs.Found.{record-moves, found-whole}
 use Rattle.patches.proofs.writing.count_patches.Statement.{statement}
 use Rattle.patches.proofs.writing.count_patches.Tie as tie
 
 abbrev Inv-loop : tie.InvT-loop
-Inv-loop «data» values mesh count₀ pos₀ most₀ count pos most =
-    (count ≤ pos) × (pos ≤ mesh .limit)
-    × ((T : Table) (R : Ranges) → Sound T mesh → Count T mesh «data» values R count pos most)
+Inv-loop «data» values records count₀ place₀ most₀ count place most =
+    (count ≤ place .0) × (place .0 ≤ records .limit)
+    × ((T : Table) (R : Ranges) → Suits T records → Count T records «data» values R count (place .0) most)
 
 abbrev μ-loop : tie.MeasureT-loop
-μ-loop «data» values mesh count₀ pos₀ most₀ count pos most = mesh .limit - pos
+μ-loop «data» values records count₀ place₀ most₀ count place most = records .limit - place .0
 
 loop-holds : tie.Need-loop-holds Inv-loop μ-loop
-loop-holds c = (omega arith, omega arith, λ T R s. count-start (c .before .before .pre) s R)
+loop-holds c = (omega arith, omega arith, λ T R s. count-start s R (c .before .before .pre))
 
 find-record-requires : tie.Need-find-record-requires Inv-loop μ-loop
 find-record-requires c κs = (c .before .before .before .pre, c .loop .inv .1)
@@ -35,10 +35,9 @@ returns : tie.Need-returns Inv-loop μ-loop
 returns c =
     let c2 = c .before .before in
     let c3 = c2 .before in
-    let c6 = c3 .before .before .before in
     let e = sym (c .enum-told .given .1) ∙ c2 .find-record .ensures in
     let i = c3 .loop .inv in
-    (omega arith, λ T R s. count-end (c6 .pre) s R (i .2 T R s) (i .1) e)
+    (omega arith, λ T R s. count-end s R (i .2 T R s) (i .1) e)
 
 add-count : tie.Need-add-count Inv-loop μ-loop
 add-count c =
@@ -56,7 +55,7 @@ loop-less c =
     let i = c4 .loop .inv in
     let u = c7 .pre in
     let v = found-whole _ _ _ _ _ (g .0 .0) (g .0 .1 .0) e in
-    let k = record-moves (c7 .args .mesh) (g .0 .0) in
+    let k = record-moves (c7 .args .records) (g .0 .0) in
     omega (arith, u .fair .flag-some)
 
 loop-again : tie.Need-loop-again Inv-loop μ-loop
@@ -70,8 +69,8 @@ loop-again c =
     let i = c4 .loop .inv in
     let u = c7 .pre in
     let v = found-whole _ _ _ _ _ (g .0 .0) (g .0 .1 .0) e in
-    let k = record-moves (c7 .args .mesh) (g .0 .0) in
-    (omega (arith, u .fair .flag-some), v .within, λ T R s. count-step u s R (g .0 .0) (g .0 .1 .0) (i .2 T R s) e)
+    let k = record-moves (c7 .args .records) (g .0 .0) in
+    (omega (arith, u .fair .flag-some), v .within, λ T R s. count-step s R (g .0 .0) (g .0 .1 .0) (i .2 T R s) e)
 
 pub count-patches-spec : {M : Type 1} → statement M
 count-patches-spec =

@@ -4,9 +4,9 @@ use native.Mathlib.Omega.{arith}
 use native.Mathlib.Nat.{mul-le-mul}
 use borrow.Author.Needs.{needs}
 use Rattle.answers.proofs.Outcomes.{no-room, all-written}
-use Rattle.rows.specs.Placing.{listed}
-use Rattle.patches.specs.Forms.{tableOf}
-use Rattle.patches.proofs.Records.{finished-length}
+use Rattle.rows.specs.Inner.Layouts.{heldRanges}
+use Rattle.patches.specs.Inner.Forms.{tableOf}
+use Rattle.patches.proofs.Walk.{finished-length}
 use Rattle.patches.proofs.writing.patches.Statement.{statement}
 use Rattle.patches.proofs.writing.patches.Tie as tie
 
@@ -30,38 +30,38 @@ add-size-3 c = search needs
 
 mul-if1 : tie.Need-mul-if1
 mul-if1 c =
-    let c2 = c .before .before in
-    let c6 = c2 .before .before .before .before in
-    let a = c6 .args in
-    let h = c6 .pre in
-    let p : c2 .count-patches .result ≤ 134217728 = omega (arith, h .0 .fair .limit-few) in
-    let q : (4 + a .mesh .own) * 2 + 4 * (8 + a .mesh .n) ≤ 192 = omega (arith, h .0 .fair .own-few, h .0 .fair .n-few) in
+    let c1 = c .before in
+    let c5 = c1 .before .before .before .before in
+    let a = c5 .args in
+    let h = c5 .pre in
+    let p : c1 .count-patches .result ≤ 134217728 = omega (arith, h .0 .fair .limit-few) in
+    let q : (4 + a .records .own) * 2 + 4 * (8 + a .records .layout .n) ≤ 192 = omega (arith, h .0 .fair .own-few, h .0 .fair .n-few) in
     omega (arith, mul-le-mul p q)
 
 returns : tie.Need-returns
 returns c =
-    let c3 = c .before .before .before in
-    let c7 = c3 .before .before .before .before in
-    let a = c7 .args in
-    let h = c7 .pre in
+    let c2 = c .before .before in
+    let c6 = c2 .before .before .before .before in
+    let a = c6 .args in
+    let h = c6 .pre in
     let table = tableOf (a .sides) in
-    let ranges = listed (a .mins .now) (a .scales .now) in
-    no-room _ _ (finished-length table (a .mesh) (a .data .now) (a .values .now) ranges (h .1))
-    (rw (c3 .count-patches .ensures .1 table ranges (h .1)) at (c .if1 .taken))
+    let ranges = heldRanges (a .ranges .now) in
+    no-room _ _ (finished-length (h .1) ranges (h .0))
+    (rw (c2 .count-patches .ensures .1 table ranges (h .1)) at (c .if1 .taken))
 
 write-patches-requires : tie.Need-write-patches-requires
 write-patches-requires c κs =
     let c1 = c .before in
-    let c4 = c1 .before .before .before in
-    let c8 = c4 .before .before .before .before in
-    let a = c8 .args in
-    let h = c8 .pre in
+    let c3 = c1 .before .before in
+    let c7 = c3 .before .before .before .before in
+    let a = c7 .args in
+    let h = c7 .pre in
     let table = tableOf (a .sides) in
-    let ranges = listed (a .mins .now) (a .scales .now) in (
+    let ranges = heldRanges (a .ranges .now) in (
       h .0,
       h .1,
-      rw (finished-length table (a .mesh) (a .data .now) (a .values .now) ranges (h .1))
-          (rw (c4 .count-patches .ensures .1 table ranges (h .1)) at (c1 .if1 .left)),
+      rw (finished-length (h .1) ranges (h .0))
+          (rw (c3 .count-patches .ensures .1 table ranges (h .1)) at (c1 .if1 .left)),
     )
 
 same-length : tie.Need-same-length
@@ -70,13 +70,13 @@ same-length c = search needs
 returns-2 : tie.Need-returns-2
 returns-2 c =
     let c2 = c .before .before in
-    let c7 = c2 .before .before .before .before .before in
-    let c11 = c7 .before .before .before .before in
-    let a = c11 .args in
-    let h = c11 .pre in
+    let c6 = c2 .before .before .before .before in
+    let c10 = c6 .before .before .before .before in
+    let a = c10 .args in
+    let h = c10 .pre in
     let table = tableOf (a .sides) in
-    let ranges = listed (a .mins .now) (a .scales .now) in
-    all-written (c7 .count-patches .ensures .1 table ranges (h .1)) (c2 .write-patches .ensures)
+    let ranges = heldRanges (a .ranges .now) in
+    all-written (c6 .count-patches .ensures .1 table ranges (h .1)) (c2 .write-patches .ensures)
 
 pub patches-spec : {M : Type 1} → statement M
 patches-spec =

@@ -3,8 +3,10 @@ use Prim.Native.Nat.{_+_, _-_, _*_}
 use native.Mathlib.Omega.{arith}
 use borrow.Author.Needs.{needs}
 use Rattle.lists.proofs.Writing.{written-then}
-use Rattle.patches.specs.Source.{sidePoints, sideColours, patchSize}
+use Rattle.rows.specs.Inner.Layouts.{heldRanges}
+use Rattle.patches.specs.Inner.Records.{sidePoints, sideColours, patchSize}
 use Rattle.patches.proofs.Copying.{colours-stay, below-more}
+use Rattle.patches.proofs.Placing.{points-placed, colours-placed}
 use Rattle.patches.proofs.writing.write_next.Statement.{statement}
 use Rattle.patches.proofs.writing.write_next.Tie as tie
 
@@ -26,39 +28,39 @@ add-start-2 c = search needs
 sub-start : tie.Need-sub-start
 sub-start c = search needs
 
+mul-t20 : tie.Need-mul-t20
+mul-t20 c = search needs
+
+mul-t22 : tie.Need-mul-t22
+mul-t22 c = search needs
+
+add-t21 : tie.Need-add-t21
+add-t21 c = search needs
+
 copy-side-points-requires : tie.Need-copy-side-points-requires
 copy-side-points-requires c κs =
-    let c4 = c .before .before .before .before in
-    let a = c4 .args in
-    let h = c4 .pre in
-    (h .1 .0 .0, below-more (4 + a .mesh .own) 16 (a .side .points) (omega arith) (h .1 .1), omega arith, omega arith)
+    let c7 = c .before .before .before .before .before .before .before in
+    let a = c7 .args in
+    let h = c7 .pre in
+    (h .1 .0 .0, below-more (4 + a .records .own) 16 (a .side .points) (omega arith) (h .1 .1), omega arith, omega arith)
 
-place-points-requires : tie.Need-place-points-requires
-place-points-requires c κs = search needs
+place-run-requires : tie.Need-place-run-requires
+place-run-requires c κs = search needs
 
 add-copy-side-colours : tie.Need-add-copy-side-colours
 add-copy-side-colours c = search needs
 
 copy-side-colours-requires : tie.Need-copy-side-colours-requires
 copy-side-colours-requires c κs =
-    let c12 = c .before .before .before .before .before .before .before .before .before .before .before .before in
-    let a = c12 .args in
-    let h = c12 .pre in
-    (h .1 .0 .1, h .1 .2, omega arith, omega arith, omega arith)
+    let c3 = c .before .before .before in
+    let c15 = c3 .before .before .before .before .before .before .before .before .before .before .before .before in
+    let a = c15 .args in
+    let h = c15 .pre in
+    let w = points-placed (h .0) (a .from .0) (heldRanges (a .ranges .now)) (a .records .own) (c3 .place-run .ensures) (omega (arith, h .2)) (omega arith) (omega arith) in
+    (h .1 .0 .1, h .1 .2, omega arith, omega (arith, w .0), omega (arith, w .0))
 
-mul-rest : tie.Need-mul-rest
-mul-rest c = search needs
-
-mul-rest-2 : tie.Need-mul-rest-2
-mul-rest-2 c = search needs
-
-add-rest : tie.Need-add-rest
-add-rest c = search needs
-
-place-colours-requires : tie.Need-place-colours-requires
-place-colours-requires c κs =
-    let h = c .before .before .before .before .before .before .before .before .before .before .before .before .before .before .before .before .before .pre in
-    (h .0, omega arith, omega (arith, h .2), omega arith)
+place-run-requires-2 : tie.Need-place-run-requires-2
+place-run-requires-2 c κs = search needs
 
 same-length : tie.Need-same-length
 same-length c = search needs
@@ -67,15 +69,19 @@ returns : tie.Need-returns
 unfolding sidePoints sideColours
 returns c =
     let c2 = c .before .before in
-    let c7 = c2 .before .before .before .before .before in
-    let c11 = c7 .before .before .before .before in
-    let c15 = c11 .before .before .before .before in
-    let c20 = c15 .before .before .before .before .before in
-    let a = c20 .args in
-    let h = c20 .pre in
-    let w = written-then (c15 .copy-side-points .ensures .1) (c11 .place-points .ensures .1) in
-    let e = colours-stay (a .mesh .n) (a .at - patchSize (a .mesh) + (4 + a .mesh .own) * 2) (a .side .colours) (h .1 .2) w (omega arith) in
-    (omega arith, written-then w (written-then (rw e at (c7 .copy-side-colours .ensures .1)) (c2 .place-colours .ensures .1)))
+    let c6 = c2 .before .before .before .before in
+    let c10 = c6 .before .before .before .before in
+    let c14 = c10 .before .before .before .before in
+    let c22 = c14 .before .before .before .before .before .before .before .before in
+    let a = c22 .args in
+    let h = c22 .pre in
+    let r = heldRanges (a .ranges .now) in
+    let ps = points-placed (h .0) (a .from .0) r (a .records .own) (c10 .place-run .ensures) (omega (arith, h .2)) (omega arith) (omega arith) in
+    let cs = colours-placed (h .0) (a .from .0 + a .records .own * (2 * a .records .layout .coord)) r 2 (c2 .place-run2 .ensures) (omega (arith, h .2)) (omega arith)
+    (omega (arith, ps .0)) in
+    let w = written-then (c14 .copy-side-points .ensures .1) (ps .1) in
+    let e = colours-stay (a .records .layout .n) (a .at - patchSize (a .records) + (4 + a .records .own) * 2) (a .side .colours) (h .1 .2) w (omega arith) in
+    (omega (arith, ps .0, cs .0), written-then w (written-then (rw e at (c6 .copy-side-colours .ensures .1)) (cs .1)))
 
 pub write-next-spec : {M : Type 1} → statement M
 write-next-spec =
@@ -87,13 +93,13 @@ write-next-spec =
     mul-start
     add-start-2
     sub-start
+    mul-t20
+    mul-t22
+    add-t21
     copy-side-points-requires
-    place-points-requires
+    place-run-requires
     add-copy-side-colours
     copy-side-colours-requires
-    mul-rest
-    mul-rest-2
-    add-rest
-    place-colours-requires
+    place-run-requires-2
     same-length
     returns)

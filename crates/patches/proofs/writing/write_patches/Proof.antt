@@ -4,24 +4,24 @@ use Prim.Native.Nat.{_-_, _≤_}
 use mathlib.Core.Path.{sym, _∙_}
 use native.Mathlib.Omega.{arith}
 use borrow.Author.Needs.{needs}
-use Rattle.rows.specs.Placing.{listed}
-use Rattle.patches.specs.Forms.{tableOf}
+use Rattle.rows.specs.Inner.Layouts.{heldRanges}
+use Rattle.patches.specs.Inner.Forms.{tableOf}
 use Rattle.patches.proofs.Walk.{Walk, walk-start, walk-flag, walk-joined, walk-room, walk-step, walk-end}
 use Rattle.patches.proofs.Found.{record-moves, found-whole}
 use Rattle.patches.proofs.writing.write_patches.Statement.{statement}
 use Rattle.patches.proofs.writing.write_patches.Tie as tie
 
 abbrev Inv-loop : tie.InvT-loop
-Inv-loop «data» values mesh mins scales sides out₀ at₀ pos₀ most₀ out at pos most =
-    (pos ≤ mesh .limit) × Walk (tableOf sides) mesh «data» values (listed mins scales) out₀ out at pos most
+Inv-loop «data» values records ranges sides out₀ at₀ place₀ most₀ out at place most =
+    (place .0 ≤ records .limit) × Walk (tableOf sides) records «data» values (heldRanges ranges) out₀ out at (place .0) most
 
 abbrev μ-loop : tie.MeasureT-loop
-μ-loop «data» values mesh mins scales sides out₀ at₀ pos₀ most₀ out at pos most = mesh .limit - pos
+μ-loop «data» values records ranges sides out₀ at₀ place₀ most₀ out at place most = records .limit - place .0
 
 loop-holds : tie.Need-loop-holds Inv-loop μ-loop
 loop-holds c =
     let h = c .before .before .before .pre in
-    (omega arith, walk-start (h .0) (h .1) _ (h .2))
+    (omega arith, walk-start (h .1) _ (h .0) (h .2))
 
 find-record-requires : tie.Need-find-record-requires Inv-loop μ-loop
 find-record-requires c κs =
@@ -45,7 +45,7 @@ returns c =
     let e = sym (c .enum-told .given .1) ∙ c2 .find-record .ensures in
     let i = c3 .loop .inv in
     let h = c7 .pre in
-    walk-end (h .0) (h .1) _ (i .1) (i .0) e
+    walk-end (h .1) _ (i .1) (i .0) e
 
 write-patch-requires : tie.Need-write-patch-requires Inv-loop μ-loop
 write-patch-requires c κs =
@@ -58,15 +58,15 @@ write-patch-requires c κs =
     let i = c5 .loop .inv in
     let h = c9 .pre in
     let a = c9 .args in
-    let r = (listed (a .mins .now) (a .scales .now)) in
+    let r = heldRanges (a .ranges .now) in
     let v = found-whole _ _ _ _ _ (g .0 .0) (g .0 .1 .0) e in
-    let k = record-moves (a .mesh) (g .0 .0) in (
+    let k = record-moves (a .records) (g .0 .0) in (
       h .0,
       h .1,
-      walk-flag (h .0) (h .1) r (i .1) (g .0 .0) (g .0 .1 .0) e,
+      walk-flag (h .1) r (i .1) (g .0 .0) (g .0 .1 .0) e,
       omega arith,
-      walk-joined (h .0) (h .1) r (i .1) (g .0 .0) (g .0 .1 .0) e,
-      walk-room (h .0) (h .1) r (i .1) (g .0 .0) (g .0 .1 .0) e,
+      walk-joined (h .1) r (i .1) (g .0 .0) (g .0 .1 .0) e,
+      walk-room (h .1) r (i .1) (g .0 .0) (g .0 .1 .0) e,
     )
 
 loop-less : tie.Need-loop-less Inv-loop μ-loop
@@ -80,9 +80,9 @@ loop-less c =
     let i = c8 .loop .inv in
     let h = c12 .pre in
     let a = c12 .args in
-    let r = (listed (a .mins .now) (a .scales .now)) in
+    let r = heldRanges (a .ranges .now) in
     let v = found-whole _ _ _ _ _ (g .0 .0) (g .0 .1 .0) e in
-    let k = record-moves (a .mesh) (g .0 .0) in
+    let k = record-moves (a .records) (g .0 .0) in
     omega (arith, h .0 .fair .flag-some)
 
 loop-again : tie.Need-loop-again Inv-loop μ-loop
@@ -97,10 +97,10 @@ loop-again c =
     let i = c8 .loop .inv in
     let h = c12 .pre in
     let a = c12 .args in
-    let r = (listed (a .mins .now) (a .scales .now)) in
+    let r = heldRanges (a .ranges .now) in
     let v = found-whole _ _ _ _ _ (g .0 .0) (g .0 .1 .0) e in
-    let k = record-moves (a .mesh) (g .0 .0) in
-    (v .within, walk-step (h .0) (h .1) r (i .1) (g .0 .0) (g .0 .1 .0) e (c2 .write-patch .ensures))
+    let k = record-moves (a .records) (g .0 .0) in
+    (v .within, walk-step (h .1) r (i .1) (g .0 .0) (g .0 .1 .0) e (c2 .write-patch .ensures))
 
 pub write-patches-spec : {M : Type 1} → statement M
 write-patches-spec =

@@ -1,4 +1,4 @@
--- The two types and the two tables, as the inner functions choose between them: what only they promise one another.
+-- The two types and the two tables, as the inner functions choose between them.
 use Prim.Native.Nat.{ℕ, _-_}
 use mathlib.Core.Path.{_≡_}
 use mathlib.Core.List.{List}
@@ -10,16 +10,17 @@ use Rattle.records.specs.declared.layout.FlagWidth.the-variants.{Bits}
 use Rattle.records.specs.declared.shape.Kind.{Kind}
 use Rattle.records.specs.declared.shape.Kind.the-variants.{Six, Seven}
 use Rattle.rules.specs.Patches.{Places, patch, Table, sides, listSides}
-use Rattle.meshes.specs.Outcomes.{Stream, parsed, patches67, built, listed67}
+use Rattle.rules.specs.Meshes.{patchMesh}
+use Rattle.meshes.specs.Outcomes.{parsed, built}
 use Rattle.patches.specs.declared.Form.{Form}
 use Rattle.patches.specs.declared.Form.the-variants.{Coons, Tensor}
 use Rattle.patches.specs.declared.sides.Sides.{Sides}
 use Rattle.patches.specs.declared.sides.Sides.the-variants.{Border, Grid}
 use Rattle.patches.specs.declared.sides.Side.{Side}
 
-abbrev pub kindOf : Form → Kind
-kindOf Coons = Six
-kindOf Tensor = Seven
+abbrev pub typeOfForm : Form → Kind
+typeOfForm Coons = Six
+typeOfForm Tensor = Seven
 
 abbrev pub ownOf : Form → ℕ
 ownOf Coons = 8
@@ -39,8 +40,8 @@ TakenSide T flag side = getElem? T (flag - 1) ≡ some (placesOf side)
 
 unfoldable pub parsedForm : Form → List ℕ → ℕ → ℕ → ℕ → List Float → ℕ → ℕ → Outcome Float
 parsedForm form s coord comp flag entries n room =
-    let m : Stream = record { kind = kindOf form; flag = Bits flag; coord = coord; comp = comp; entries = entries; n = n } in
-    parsed m (patches67 sides (ownOf form) m) s room
+    parsed (record { kind = typeOfForm form; flag = Bits flag; coord = coord; comp = comp; entries = entries; n = n })
+    (patchMesh sides (ownOf form)) s room
 
 unfoldable pub builtForm : Form → Sides → List Float → ℕ → ℕ → Outcome Float
-builtForm form table vs n room = built (listed67 (tableOf table) (ownOf form) n) n vs room
+builtForm form table vs n room = built (patchMesh (tableOf table) (ownOf form)) n vs room
