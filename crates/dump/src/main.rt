@@ -2,7 +2,7 @@
 ghost use Prim.Native.Nat.{_-_, _≤_};
 ghost use lib.ListN.{length, take};
 ghost use Rattle.lists.specs.Writing.{Written};
-ghost use Rattle.dump.specs.Reading.{Within};
+ghost use Rattle.dump.specs.Inner.Reading.{Within};
 use libc::STDIN_FILENO;
 use libc::STDOUT_FILENO;
 

@@ -1,13 +1,13 @@
 -- What an answer says of the mesh: an accepted one has as many numbers for each triangle or patch, and no more than the output takes. Assumes nothing.
 use Prim.Native.Nat.{ℕ, _+_, _*_, _/_, _≤_, _<_}
-use mathlib.Core.Path.{_≡_, refl, ap, _∙_}
-use mathlib.Core.Bool.{Bool, true, false, not}
+use mathlib.Core.Path.{_≡_}
+use mathlib.Core.Bool.{not}
 use mathlib.Core.List.{List}
 use mathlib.Core.Option.{none}
 use native.Mathlib.Omega.{arith}
 use borrow.Author.Tests.{ltb-false}
 use lib.Dec.{ltb}
-use lib.ListN.{length, drop, length-append, length-take, length-drop}
+use lib.ListN.{length, take, drop, length-append, length-take, length-drop}
 use lib.Ieee.{Float}
 use Rattle.lists.specs.Lists.{All, Begins}
 use Rattle.lists.proofs.Pieces.{length-part}
@@ -15,28 +15,27 @@ use Rattle.answers.specs.declared.Refusal.{Refusal}
 use Rattle.answers.specs.declared.Refusal.the-variants.{Layout, Components, Length, Room, Record, Thin, File}
 use Rattle.answers.specs.declared.Answer.the-variants.{Wrote, Refused}
 use Rattle.answers.specs.Limits.{mostComponents, mostBytes}
-use Rattle.answers.specs.Told.{numberOf}
-use Rattle.answers.specs.Outcome.{Outcome, refused, wrote, refuseIf, fitted, Done}
+use Rattle.answers.specs.Outcome.{numberOf, Outcome, refused, wrote, fitted, Done}
+use Rattle.answers.proofs.Outcomes.{passed}
 use Rattle.answers.proofs.OneOutcome.{one-answer}
 use Rattle.records.specs.declared.shape.Kind.{Kind}
 use Rattle.records.specs.declared.shape.Kind.the-variants.{Four, Five, Six, Seven}
 use Rattle.records.specs.Layout.{layoutReadable}
-use Rattle.rows.specs.Rows.{Ranges}
-use Rattle.rows.proofs.Lengths.{length-colourRow}
-use Rattle.rules.specs.Triangles.{Tri}
+use Rattle.decode.specs.Decode.{Ranges}
+use Rattle.rules.specs.Triangles.{FlagRule}
 use Rattle.rules.specs.Lattice.{lattice}
 use Rattle.rules.specs.Patches.{sides}
-use Rattle.rules.specs.Meshes.{flags, vertex4, vertex5, type5Mesh}
+use Rattle.rules.specs.Meshes.{Source, Finished, flags, vertex4, vertex5, vertexRow, type4Mesh, type5Mesh, patchMesh}
 use Rattle.rules.specs.Ported.{binaryReader}
-use Rattle.rules.specs.Properties.{Fits}
+use Rattle.rules.specs.Inner.Sides.{Fits}
 use Rattle.rules.proofs.Rows.{length-patchMesh}
 use Rattle.rules.proofs.Tables.{sides-fit}
-use Rattle.meshes.specs.Decoded.{decoded, decodedPoint, decodedColour, decodedVertex}
-use Rattle.meshes.specs.Outcomes.{Finished, Stream, rawOf, rangesOf, itself, parsed, triangles4, triangles5, patches67}
-use Rattle.meshes.proofs.PatchNumbers.{length-decoded}
+use Rattle.meshes.specs.Decoded.{byDecode}
+use Rattle.meshes.specs.Outcomes.{Stream, rawOf, decodeOf, parsed, portedReader}
+use Rattle.meshes.proofs.Standing.{reads-decode}
 use Rattle.triangles.proofs.Writing.{length-mesh}
-use Rattle.msf.specs.Listing.{strideOf}
-use Rattle.msf.specs.File.{mostAnswer, components, rowLength, ported, answerOf}
+use Rattle.msf.specs.Inner.Kinds.{strideOf}
+use Rattle.msf.specs.File.{mostAnswer, components, rowLength, answerOf}
 
 -- ---- refusals and answers
 
@@ -57,11 +56,11 @@ pub record Begun {A : Type 0} (o : Outcome A) (count : ℕ) (exit : List A) : Ty
 
 module _ {A : Type 0} {entry exit : List A} where
   -- the outcome of a call that refused
-  pub outcome-refused : (o : Outcome A) {r : Refusal} → Done o entry (Refused r) exit → o ≡ refused r
-  outcome-refused (refused q) {r} d =
+  pub outcome-refused : (o : Outcome A) (r : Refusal) → Done o entry (Refused r) exit → o ≡ refused r
+  outcome-refused (refused q) r d =
       let e : Refused r ≡ Refused q = one-answer (Refused r) (Refused q) (d .answered) in
       cc
-  outcome-refused (wrote k xs) {r} d =
+  outcome-refused (wrote k xs) r d =
       let e : Refused r ≡ Wrote k = one-answer (Refused r) (Wrote k) (d .answered) in
       let z : _≡_ {A = ℕ} 0 1 = cc in
       absurd (omega arith)
@@ -82,33 +81,31 @@ module _ {A : Type 0} {entry exit : List A} where
 
 -- ---- the numbers of each mesh
 
-length-vertex : (R : Ranges) (n : ℕ) (xs : List ℕ) → length xs ≡ n + 2 → length (decodedVertex R xs) ≡ 10 + n
-length-vertex R n xs e =
-    simp (length-append, length-decoded, length-colourRow, length-take, length-drop) (omega arith)
+module _ (R : Ranges) (n : ℕ) (xs : List ℕ) where
+  length-vertex : (ys : List ℕ) → length ys ≡ n + 2 → length (vertexRow (byDecode R) ys) ≡ 10 + n
+  length-vertex ys e =
+      let point = reads-decode R .point-sized (take 2 ys) (simp length-take (omega arith)) in
+      let colour = reads-decode R .colour-sized n (drop 2 ys) (simp length-drop (omega arith)) in
+      omega (arith, length-append (byDecode R .point (take 2 ys)) (byDecode R .colour (drop 2 ys)))
 
-module _ (m : Stream) (xs : List ℕ) where
-  length-triangles4 : (rule : List ℕ → List Tri) → length (triangles4 rule m xs .numbers) ≡ triangles4 rule m xs .count * (3 * (10 + m .n))
-  unfolding triangles4 vertex4
-  length-triangles4 rule =
-      length-mesh (λ (i : ℕ). decodedVertex (rangesOf m) (vertex4 0 (m .n) xs i)) (10 + m .n)
-      (λ i. length-vertex (rangesOf m) (m .n) (vertex4 0 (m .n) xs i) (length-part 0 xs (i * (m .n + 3) + 1) (m .n + 2)))
-      (rule (flags 0 itself (m .n) xs))
+  length-type4 : (rule : FlagRule) → length (type4Mesh rule (byDecode R) n xs .numbers) ≡ type4Mesh rule (byDecode R) n xs .count * (3 * (10 + n))
+  unfolding type4Mesh vertex4
+  length-type4 rule =
+      length-mesh (λ (i : ℕ). vertexRow (byDecode R) (vertex4 0 n xs i)) (10 + n)
+      (λ i. length-vertex (vertex4 0 n xs i) (length-part 0 xs (i * (n + 3) + 1) (n + 2)))
+      (rule (flags 0 (λ (x : ℕ). x) n xs))
 
-  length-triangles5 : (row : ℕ) → length (triangles5 row m xs .numbers) ≡ triangles5 row m xs .count * (3 * (10 + m .n))
-  unfolding triangles5 type5Mesh vertex5
-  length-triangles5 row =
-      length-mesh (λ (i : ℕ). decodedVertex (rangesOf m) (vertex5 0 (m .n) xs i)) (10 + m .n)
-      (λ i. length-vertex (rangesOf m) (m .n) (vertex5 0 (m .n) xs i) (length-part 0 xs (i * (m .n + 2)) (m .n + 2)))
-      (lattice (length xs / (m .n + 2)) row)
+  length-type5 : (row : ℕ) → length (type5Mesh row (byDecode R) n xs .numbers) ≡ type5Mesh row (byDecode R) n xs .count * (3 * (10 + n))
+  unfolding type5Mesh vertex5
+  length-type5 row =
+      length-mesh (λ (i : ℕ). vertexRow (byDecode R) (vertex5 0 n xs i)) (10 + n)
+      (λ i. length-vertex (vertex5 0 n xs i) (length-part 0 xs (i * (n + 2)) (n + 2)))
+      (lattice (length xs / (n + 2)) row)
 
   length-patches : (own : ℕ) → All (Fits (4 + own)) sides
-      → length (patches67 sides own m xs .numbers) ≡ patches67 sides own m xs .count * ((4 + own) * 2 + 4 * (8 + m .n))
-  unfolding patches67
+      → length (patchMesh sides own (byDecode R) n xs .numbers) ≡ patchMesh sides own (byDecode R) n xs .count * ((4 + own) * 2 + 4 * (8 + n))
   length-patches own fit =
-      length-patchMesh 0 (decodedPoint (rangesOf m)) (decodedColour (rangesOf m)) 2 (8 + m .n) (m .n)
-      (λ x h. length-decoded (rangesOf m) 0 x ∙ h)
-      (λ x h. length-colourRow (decoded (rangesOf m) 2 x) ∙ ap (λ (k : ℕ). 8 + k) (length-decoded (rangesOf m) 2 x ∙ h))
-      sides itself own fit xs
+      length-patchMesh (byDecode R) 2 (8 + n) n (reads-decode R .point-sized) (reads-decode R .colour-sized n) sides own fit xs
 
 -- ---- accepted meshes
 
@@ -118,23 +115,19 @@ pub record Sized (stride n count : ℕ) (xs : List Float) : Type 0 where
   pub few : n ≤ mostComponents
   pub fits : length xs ≤ mostAnswer
 
-passed : {A : Type 0} (b : Bool) (r : Refusal) (o : Outcome A) {count : ℕ} {xs : List A} → refuseIf b r o ≡ wrote count xs
-    → (b ≡ false) × (o ≡ wrote count xs)
-passed true r o {count} {xs} e = let z : _≡_ {A = ℕ} 0 1 = cc in absurd (omega arith)
-passed false r o e = (refl, e)
-
-parsed-sized : (m : Stream) (finish : List ℕ → Finished) (s : List ℕ) (stride : ℕ) {count : ℕ} {xs : List Float}
-    → length (finish (rawOf m s) .numbers) ≡ finish (rawOf m s) .count * stride → parsed m finish s mostAnswer ≡ wrote count xs
-    → Sized stride (m .n) count xs
+parsed-sized : (m : Stream) (mesh : Source ℕ Float → ℕ → List ℕ → Finished Float) (s : List ℕ) (stride : ℕ) {count : ℕ} {xs : List Float}
+    → let M : Finished Float = mesh (decodeOf m) (m .n) (rawOf m s) in
+    length (M .numbers) ≡ M .count * stride → parsed m mesh s mostAnswer ≡ wrote count xs → Sized stride (m .n) count xs
 unfolding parsed fitted
-parsed-sized m finish s stride {count} {xs} h e =
-    let ys : List Float = finish (rawOf m s) .numbers in
+parsed-sized m mesh s stride {count} {xs} h e =
+    let M : Finished Float = mesh (decodeOf m) (m .n) (rawOf m s) in
+    let ys : List Float = M .numbers in
     let layout = passed (not (layoutReadable (m .coord) (m .comp) (m .flag) (length (m .entries)))) Layout _ e in
     let few = passed (ltb mostComponents (m .n)) Components _ (layout .1) in
     let short = passed (ltb mostBytes (length s)) Length _ (few .1) in
     let room = passed (ltb mostAnswer (length ys)) Room _ (short .1) in
     let same : ys ≡ xs = cc (room .1) in
-    let counts : finish (rawOf m s) .count ≡ count = cc (room .1) in
+    let counts : M .count ≡ count = cc (room .1) in
     record {
       long = rw (← same, ← counts) h;
       few = ltb-false _ _ (few .0);
@@ -143,8 +136,8 @@ parsed-sized m finish s stride {count} {xs} h e =
 
 pub answer-sized : (kind : Kind) (s : List ℕ) {count : ℕ} {xs : List Float} → answerOf kind s ≡ wrote count xs
     → Sized (strideOf kind (components s)) (components s) count xs
-unfolding answerOf ported strideOf
-answer-sized Four s e = parsed-sized _ _ _ _ (length-triangles4 _ _ (binaryReader none 0)) e
-answer-sized Five s e = parsed-sized _ _ _ _ (length-triangles5 _ _ (rowLength s)) e
-answer-sized Six s e = parsed-sized _ _ _ _ (length-patches _ _ 8 (sides-fit .0)) e
-answer-sized Seven s e = parsed-sized _ _ _ _ (length-patches _ _ 12 (sides-fit .1)) e
+unfolding answerOf portedReader strideOf
+answer-sized Four s e = parsed-sized _ (type4Mesh (binaryReader none 0)) _ _ (length-type4 _ _ _ (binaryReader none 0)) e
+answer-sized Five s e = parsed-sized _ (type5Mesh (rowLength s)) _ _ (length-type5 _ _ _ (rowLength s)) e
+answer-sized Six s e = parsed-sized _ (patchMesh sides 8) _ _ (length-patches _ _ _ 8 (sides-fit .0)) e
+answer-sized Seven s e = parsed-sized _ (patchMesh sides 12) _ _ (length-patches _ _ _ 12 (sides-fit .1)) e

@@ -1,4 +1,3 @@
-pub mod BigEndian
 pub mod Answers
 pub mod WellFormed
 pub mod Listings

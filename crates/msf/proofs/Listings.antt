@@ -8,17 +8,17 @@ use lib.ListN.{length}
 use lib.Ieee.{Float, nan}
 use Rattle.lists.specs.Lists.{Begins}
 use Rattle.lists.proofs.Pieces.{joined-same}
-use Rattle.answers.specs.Told.{numberOf}
+use Rattle.answers.specs.Outcome.{numberOf, Done}
 use Rattle.answers.specs.declared.Refusal.{Refusal}
 use Rattle.answers.specs.declared.Answer.{Answer}
 use Rattle.answers.specs.declared.Answer.the-variants.{Wrote, Refused}
 use Rattle.answers.specs.Limits.{mostComponents}
-use Rattle.answers.specs.Outcome.{Done}
 use Rattle.records.specs.declared.shape.Kind.{Kind}
 use Rattle.records.specs.declared.shape.Kind.the-variants.{Four, Five, Six, Seven}
 use Rattle.rules.proofs.Lists.{begins-length, begins-part}
 use Rattle.msf.specs.Text.{decimal}
-use Rattle.msf.specs.Listing.{line, vertexLine, pointLine, colourLine, lines, patchLines, patchesLines, meshLines, strideOf, typeOf, refusedLine, listing}
+use Rattle.msf.specs.Listing.{line, vertexLine, pointLine, colourLine, lines, patchLines, patchesLines, meshLines, typeOf, refusedLine, listing}
+use Rattle.msf.specs.Inner.Kinds.{strideOf}
 use Rattle.msf.specs.File.{mostAnswer, components, answerOf}
 use Rattle.msf.proofs.Answers.{outcome-refused, Begun, outcome-wrote, Sized, answer-sized}
 
@@ -74,7 +74,7 @@ pub record Listable (kind : Kind) (n count : ℕ) (numbers : List Float) : Type 
 module _ (kind : Kind) (s : List ℕ) {entry exit : List Float} {r : Answer} (d : Done (answerOf kind s) entry r exit) where
   pub refused-listing : {q : Refusal} → r ≡ Refused q → refusedLine (numberOf q) ≡ listing kind (components s) (answerOf kind s)
   unfolding listing
-  refused-listing e = rw (outcome-refused (answerOf kind s) (rw e at d))
+  refused-listing {q} e = rw (outcome-refused (answerOf kind s) q (rw e at d))
 
   module _ {count : ℕ} (e : r ≡ Wrote count) where
     begun : Begun (answerOf kind s) count exit

@@ -4,11 +4,14 @@ use mathlib.Core.Path.{_≡_}
 use mathlib.Core.Bool.{true, false, and-eq-true-iff}
 use mathlib.Core.List.{List}
 use mathlib.Core.Option.{none, some}
+use native.Mathlib.Omega.{arith}
 use borrow.Author.Tests.{le-leb, lt-leb, eq-eqb, ne-eqb, leb-true}
 use lib.Dec.{leb}
 use lib.ListN.{length, getD}
-use Rattle.answers.specs.Told.{numberOf}
+use Rattle.answers.specs.Outcome.{numberOf}
 use Rattle.answers.specs.declared.Refusal.the-variants.{File}
+use Rattle.decode.specs.Inner.Reading.{bigEndianOr0}
+use Rattle.decode.proofs.BigEndian.{number-there}
 use Rattle.records.specs.declared.shape.Kind.{Kind}
 use Rattle.msf.specs.Listing.{refusedLine, listing}
 use Rattle.msf.specs.File.{mostFile, mark, version, components, dataAt, kindOf, wellFormed, answerOf, listingOfKind, fileListing}
@@ -24,19 +27,25 @@ module _ (s : List ℕ) where
     too-short h = simp (le-leb _ _ short, lt-leb _ _ h)
 
     module _ (enough : 13 ≤ length s) where
-      pub wrong-mark : (mark s ≡ 5067590 → ⊥) → false ≡ wellFormed s
-      unfolding wellFormed
-      wrong-mark h = simp (le-leb _ _ short, le-leb _ _ enough, ne-eqb _ _ h)
+      mark-read : bigEndianOr0 s 0 3 ≡ mark s
+      mark-read = number-there s 0 3 (omega arith) (omega arith)
 
-      module _ (marked : mark s ≡ 5067590) where
-        pub wrong-version : (version s ≡ 1 → ⊥) → false ≡ wellFormed s
+      version-read : bigEndianOr0 s 3 2 ≡ version s
+      version-read = number-there s 3 2 (omega arith) (omega arith)
+
+      pub wrong-mark : (bigEndianOr0 s 0 3 ≡ 5067590 → ⊥) → false ≡ wellFormed s
+      unfolding wellFormed
+      wrong-mark h = simp (le-leb _ _ short, le-leb _ _ enough, ← mark-read, ne-eqb _ _ h)
+
+      module _ (marked : bigEndianOr0 s 0 3 ≡ 5067590) where
+        pub wrong-version : (bigEndianOr0 s 3 2 ≡ 1 → ⊥) → false ≡ wellFormed s
         unfolding wellFormed
-        wrong-version h = simp (le-leb _ _ short, le-leb _ _ enough, eq-eqb _ _ marked, ne-eqb _ _ h)
+        wrong-version h = simp (le-leb _ _ short, le-leb _ _ enough, ← mark-read, ← version-read, eq-eqb _ _ marked, ne-eqb _ _ h)
 
         -- then the entries decide
-        pub by-entries : version s ≡ 1 → leb (dataAt s) (length s) ≡ wellFormed s
+        pub by-entries : bigEndianOr0 s 3 2 ≡ 1 → leb (dataAt s) (length s) ≡ wellFormed s
         unfolding wellFormed
-        by-entries h = simp (le-leb _ _ short, le-leb _ _ enough, eq-eqb _ _ marked, eq-eqb _ _ h)
+        by-entries h = simp (le-leb _ _ short, le-leb _ _ enough, ← mark-read, ← version-read, eq-eqb _ _ marked, eq-eqb _ _ h)
 
   pub data-inside : wellFormed s ≡ true → dataAt s ≤ length s
   unfolding wellFormed

@@ -1,22 +1,17 @@
 -- The file that the dump program reads, and what it prints for it: document 01, "Dump program". s is the file's bytes.
-use Prim.Native.Nat.{ℕ, zero, suc, _+_, _*_}
+use Prim.Native.Nat.{ℕ, _+_, _*_}
 use mathlib.Core.Bool.{Bool, _&&_, cond}
-use mathlib.Core.List.{List, [], _∷_}
+use mathlib.Core.List.{List}
 use mathlib.Core.Option.{Option, none, some}
 use lib.Dec.{leb, eqb}
 use lib.ListN.{length, drop, getD}
-use lib.Ieee.{Float, binary64, ofBits}
-use Rattle.lists.specs.Lists.{joined}
+use lib.Ieee.{Float}
 use Rattle.answers.specs.declared.Refusal.the-variants.{File}
-use Rattle.answers.specs.Told.{numberOf}
-use Rattle.answers.specs.Outcome.{Outcome}
+use Rattle.answers.specs.Outcome.{numberOf, Outcome}
+use Rattle.decode.specs.Stored.{bigEndian, floatsAt}
 use Rattle.records.specs.declared.shape.Kind.{Kind}
 use Rattle.records.specs.declared.shape.Kind.the-variants.{Four, Five, Six, Seven}
-use Rattle.rules.specs.Ported.{binaryReader}
-use Rattle.rules.specs.Patches.{sides}
-use Rattle.meshes.specs.Outcomes.{parse4, parse5, parse6, parse7}
-use Rattle.msf.specs.declared.header.Named.{Named}
-use Rattle.msf.specs.declared.header.Named.the-variants.{Mesh, Nothing}
+use Rattle.meshes.specs.Outcomes.{portedReader}
 use Rattle.msf.specs.Listing.{listing, refusedLine}
 
 -- the most bytes of a file, and the most numbers of an answer
@@ -25,11 +20,6 @@ mostFile = 65536
 
 abbrev pub mostAnswer : ℕ
 mostAnswer = 8192
-
--- the number that k bytes make from index i, high byte first
-unfoldable pub bigEndian : List ℕ → ℕ → ℕ → ℕ
-bigEndian s i zero = 0
-bigEndian s i (suc k) = 256 * bigEndian s i k + getD s (i + k) 0
 
 -- the header's fields: 13 bytes, then the entries of Decode
 abbrev pub mark : List ℕ → ℕ
@@ -60,36 +50,22 @@ entryCount s = getD s 12 0
 abbrev pub dataAt : List ℕ → ℕ
 dataAt s = 13 + 8 * entryCount s
 
--- Decode's entry i: the float of 8 bytes
-abbrev pub entryOf : List ℕ → ℕ → Float
-entryOf s i = ofBits binary64 (bigEndian s (13 + 8 * i) 8)
-
-unfoldable pub entries : List ℕ → List Float
-entries s = joined (entryCount s) (λ (i : ℕ). entryOf s i ∷ [])
+-- Decode's entries
+abbrev pub entries : List ℕ → List Float
+entries s = floatsAt s 13 (entryCount s)
 
 -- the type's kind: 4 to 7
 unfoldable pub kindOf : ℕ → Option Kind
 kindOf t = cond (eqb t 4) (some Four) (cond (eqb t 5) (some Five) (cond (eqb t 6) (some Six) (cond (eqb t 7) (some Seven) none)))
 
--- what a type byte names, as the code has it
-abbrev pub named : Named → Option Kind
-named (Mesh kind) = some kind
-named Nothing = none
-
 -- not too long, long enough for the header and the entries, with the mark `MSF` and version 1
 unfoldable pub wellFormed : List ℕ → Bool
 wellFormed s = leb (length s) mostFile && (leb 13 (length s) && (eqb (mark s) 5067590 && (eqb (version s) 1 && leb (dataAt s) (length s))))
 
--- what the ported reader of a kind answers: data, widths of coordinate, component and flag, Decode's entries, components, row length
-unfoldable pub ported : Kind → List ℕ → ℕ → ℕ → ℕ → List Float → ℕ → ℕ → ℕ → Outcome Float
-ported Four s coord comp flag entries n row room = parse4 (binaryReader none 0) s coord comp flag entries n room
-ported Five s coord comp flag entries n row room = parse5 s coord comp entries n row room
-ported Six s coord comp flag entries n row room = parse6 sides s coord comp flag entries n room
-ported Seven s coord comp flag entries n row room = parse7 sides s coord comp flag entries n room
-
+-- what the ported reader of a type answers for the header and the data
 unfoldable pub answerOf : Kind → List ℕ → Outcome Float
 answerOf kind s =
-    ported kind (drop (dataAt s) s) (coord s) (comp s) (flag s) (entries s) (components s) (rowLength s) mostAnswer
+    portedReader kind (drop (dataAt s) s) (coord s) (comp s) (flag s) (entries s) (components s) (rowLength s) mostAnswer
 
 -- FILE comes before all others
 unfoldable pub listingOfKind : Option Kind → List ℕ → List ℕ

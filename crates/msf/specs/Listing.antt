@@ -5,8 +5,7 @@ use mathlib.Core.List.{List, [], _∷_, _++_, map}
 use lib.ListN.{take, drop, getD}
 use lib.Ieee.{Float, nan, eq}
 use Rattle.lists.specs.Lists.{joined, part, flat}
-use Rattle.answers.specs.Told.{numberOf}
-use Rattle.answers.specs.Outcome.{Outcome, refused, wrote}
+use Rattle.answers.specs.Outcome.{numberOf, Outcome, refused, wrote}
 use Rattle.decode.specs.Floats.{float1}
 use Rattle.records.specs.declared.shape.Kind.{Kind}
 use Rattle.records.specs.declared.shape.Kind.the-variants.{Four, Five, Six, Seven}
@@ -61,13 +60,6 @@ meshLines Four n xs count = lines vertexLine (10 + n) xs 0 (3 * count)
 meshLines Five n xs count = lines vertexLine (10 + n) xs 0 (3 * count)
 meshLines Six n xs count = patchesLines 12 n xs count
 meshLines Seven n xs count = patchesLines 16 n xs count
-
--- how many numbers a triangle or a patch has
-unfoldable pub strideOf : Kind → ℕ → ℕ
-strideOf Four n = 3 * (10 + n)
-strideOf Five n = 3 * (10 + n)
-strideOf Six n = 2 * 12 + 4 * (8 + n)
-strideOf Seven n = 2 * 16 + 4 * (8 + n)
 
 abbrev pub typeOf : Kind → ℕ
 typeOf Four = 4

@@ -3,15 +3,17 @@ ghost use mathlib.Core.Path.{_≡_};
 ghost use Prim.Native.Nat.{_≤_};
 ghost use lib.ListN.{length};
 ghost use Rattle.lists.specs.Writing.{Written};
-ghost use Rattle.answers.specs.Told.{numberOf};
 ghost use Rattle.answers.specs.Outcome.{Done};
-ghost use Rattle.msf.specs.Listing.{refusedLine, listing};
-ghost use Rattle.msf.specs.File.{components, dataAt, ported, answerOf, fileListing};
+ghost use Rattle.meshes.specs.Outcomes.{portedReader};
+ghost use Rattle.msf.specs.Listing.{listing};
+ghost use Rattle.msf.specs.File.{components, dataAt, answerOf, fileListing};
 use crate::header::Named;
 use crate::lines::put_listing;
 use crate::lines::put_refused;
 use answers::Answer;
 use answers::Refusal;
+use decode::stored::big_endian;
+use decode::stored::read_floats;
 use patches::parse_type6_patches;
 use patches::parse_type7_patches;
 use records::shape::Kind;
@@ -37,7 +39,7 @@ fn read_kind(
     row: usize,
     numbers: &mut [f64],
 ) -> Answer
-    ensures { λ r. ⌜ Done (ported kind (now («data» .entry)) coord comp flag (now (decode .entry)) n row (length (now (numbers .entry)))) (now (numbers .entry)) r (now (numbers .exit)) ⌝ }
+    ensures { λ r. ⌜ Done (portedReader kind (now («data» .entry)) coord comp flag (now (decode .entry)) n row (length (now (numbers .entry)))) (now (numbers .entry)) r (now (numbers .exit)) ⌝ }
 {
     match kind {
         Kind::Four => parse_type4_mesh(data, coord, comp, flag, decode, n, numbers),
@@ -53,13 +55,14 @@ fn read_mesh(kind: Kind, file: &[u8], numbers: &mut [f64]) -> Answer
     ensures { λ r. ⌜ Done (answerOf kind (now (file .entry))) (now (numbers .entry)) r (now (numbers .exit)) ⌝ }
 {
     let mut entries = [0.0f64; 255];
-    let count = header::read_entries(file, &mut entries);
+    let count = header::byte_at(file, 12);
+    read_floats(file, 13, count, &mut entries);
     let at = 13 + 8 * count;
     let coord = header::byte_at(file, 6);
     let comp = header::byte_at(file, 7);
     let flag = header::byte_at(file, 8);
     let n = header::byte_at(file, 9);
-    let row = header::number_at(file, 10, 2) as usize;
+    let row = big_endian(file, 10, 2) as usize;
     read_kind(
         kind,
         &file[at..],
@@ -73,14 +76,6 @@ fn read_mesh(kind: Kind, file: &[u8], numbers: &mut [f64]) -> Answer
     )
 }
 
-// The listing of a refusal.
-fn refuse(refusal: Refusal, out: &mut [u8]) -> usize
-    requires { ⌜ 12 ≤ length (now out) ⌝ }
-    ensures { λ r. ⌜ Written (now (out .entry)) (now (out .exit)) 0 (refusedLine (numberOf refusal)) r ⌝ }
-{
-    put_refused(answers::refusal_number(refusal), out)
-}
-
 // The listing of a mesh, or of the refusal that its reader answers.
 fn list_mesh(kind: Kind, file: &[u8], out: &mut [u8]) -> usize
     requires { ⌜ (dataAt (now file) ≤ length (now file)) × (139270 ≤ length (now out)) ⌝ }
@@ -89,7 +84,7 @@ fn list_mesh(kind: Kind, file: &[u8], out: &mut [u8]) -> usize
     let n = header::byte_at(file, 9);
     let mut numbers = [0.0f64; 8192];
     match read_mesh(kind, file, &mut numbers) {
-        Answer::Refused(refusal) => refuse(refusal, out),
+        Answer::Refused(refusal) => put_refused(refusal, out),
         Answer::Wrote(count) => put_listing(kind, n, &numbers, count, out),
     }
 }
@@ -99,10 +94,10 @@ pub fn list_file(file: &[u8], out: &mut [u8; LISTING]) -> usize
     ensures { λ r. ⌜ Written (now (out .entry)) (now (out .exit)) 0 (fileListing (now (file .entry))) r ⌝ }
 {
     if !header::is_well_formed(file) {
-        return refuse(Refusal::File, out);
+        return put_refused(Refusal::File, out);
     }
     let Named::Mesh(kind) = header::kind_of(header::byte_at(file, 5)) else {
-        return refuse(Refusal::File, out); // no such type
+        return put_refused(Refusal::File, out); // no such type
     };
     list_mesh(kind, file, out)
 }

@@ -7,9 +7,12 @@ ghost use lib.ListN.{length};
 ghost use lib.Ieee.{nan};
 ghost use Rattle.lists.specs.Lists.{part};
 ghost use Rattle.lists.specs.Writing.{Written};
+ghost use Rattle.answers.specs.Outcome.{numberOf};
 ghost use Rattle.msf.specs.Text.{floatText, decimal};
-ghost use Rattle.msf.specs.Listing.{line, spaced, inkWords, rowLine, pointLine, lines, patchLines, patchesLines, meshLines, strideOf, typeOf, refusedLine};
+ghost use Rattle.msf.specs.Listing.{line, spaced, inkWords, rowLine, pointLine, lines, patchLines, patchesLines, meshLines, typeOf, refusedLine};
+ghost use Rattle.msf.specs.Inner.Kinds.{strideOf};
 use crate::text;
+use answers::Refusal;
 use records::shape::Kind;
 
 // ---- one line
@@ -79,16 +82,6 @@ fn put_row(
     put_inks(numbers, n, from + coords, out, q)
 }
 
-fn put_point(numbers: &[f64], from: usize, out: &mut [u8], at: usize) -> usize
-    requires { ⌜ (from + 2 ≤ length (now numbers)) × (at + 34 ≤ length (now out)) ⌝ }
-    ensures { λ r. ⌜ r ≤ at + 34 ⌝ }
-    ensures { λ r. ⌜ Written (now (out .entry)) (now (out .exit)) at (pointLine (part nan (now (numbers .entry)) from 2)) r ⌝ }
-{
-    let p = text::put_float(numbers[from], out, at);
-    let q = put_spaced(numbers, from + 1, 1, out, p);
-    text::put_byte(b'\n', out, q)
-}
-
 // ---- the lines of a mesh
 
 fn put_rows(
@@ -116,6 +109,7 @@ fn put_rows(
     q
 }
 
+// Points, a line of x and y for each.
 fn put_points(numbers: &[f64], from: usize, k: usize, out: &mut [u8], at: usize) -> usize
     requires { ⌜ (from + 2 * k ≤ length (now numbers)) × (at + 34 * k ≤ length (now out)) ⌝ }
     ensures { λ r. ⌜ r ≤ at + 34 * k ⌝ }
@@ -125,7 +119,9 @@ fn put_points(numbers: &[f64], from: usize, k: usize, out: &mut [u8], at: usize)
     let mut q = at;
     let mut i: usize = 0;
     while i < k {
-        q = put_point(numbers, p, out, q);
+        let x_end = text::put_float(numbers[p], out, q);
+        let y_end = put_spaced(numbers, p + 1, 1, out, x_end);
+        q = text::put_byte(b'\n', out, y_end);
         p += 2;
         i += 1;
     }
@@ -212,10 +208,11 @@ pub fn put_listing(kind: Kind, n: usize, numbers: &[f64], count: usize, out: &mu
 }
 
 // The whole listing of a refusal.
-pub fn put_refused(number: usize, out: &mut [u8]) -> usize
-    requires { ⌜ (number < 1000) × (12 ≤ length (now out)) ⌝ }
-    ensures { λ r. ⌜ Written (now (out .entry)) (now (out .exit)) 0 (refusedLine number) r ⌝ }
+pub fn put_refused(refusal: Refusal, out: &mut [u8]) -> usize
+    requires { ⌜ 12 ≤ length (now out) ⌝ }
+    ensures { λ r. ⌜ Written (now (out .entry)) (now (out .exit)) 0 (refusedLine (numberOf refusal)) r ⌝ }
 {
+    let number = answers::refusal_number(refusal);
     let p = text::put_bytes(b"refused ", out, 0);
     let end = text::put_decimal(number, out, p);
     text::put_byte(b'\n', out, end)

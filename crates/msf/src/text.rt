@@ -47,13 +47,16 @@ pub fn put_digit(digit: usize, out: &mut [u8], at: usize) -> usize
     put_byte(glyph(digit), out, at)
 }
 
-// The 16 digits of v in base 16, the lowest stored first.
-fn put_hex(v: usize, out: &mut [u8], at: usize) -> usize
+// The 16 digits of a float's bits in base 16, the lowest stored first. A NaN's bits are not asked for: only a NaN differs from itself.
+pub fn put_float(x: f64, out: &mut [u8], at: usize) -> usize
     requires { ⌜ at + 16 ≤ length (now out) ⌝ }
-    ensures { λ r. ⌜ r ≡ at + 16 ⌝ }
-    ensures { λ r. ⌜ Written (now (out .entry)) (now (out .exit)) at (text.hex 16 v) r ⌝ }
+    ensures { λ r. ⌜ r ≤ at + 16 ⌝ }
+    ensures { λ r. ⌜ Written (now (out .entry)) (now (out .exit)) at (text.floatText x) r ⌝ }
 {
-    let mut rest = v;
+    if x != x {
+        return put_bytes(b"nan", out, at);
+    }
+    let mut rest = f64::to_bits(x) as usize;
     let mut k: usize = 16;
     while 0 < k {
         k -= 1;
@@ -63,39 +66,20 @@ fn put_hex(v: usize, out: &mut [u8], at: usize) -> usize
     at + 16
 }
 
-// A NaN's bits are not asked for: only a NaN differs from itself.
-pub fn put_float(x: f64, out: &mut [u8], at: usize) -> usize
-    requires { ⌜ at + 16 ≤ length (now out) ⌝ }
-    ensures { λ r. ⌜ r ≤ at + 16 ⌝ }
-    ensures { λ r. ⌜ Written (now (out .entry)) (now (out .exit)) at (text.floatText x) r ⌝ }
-{
-    if x != x {
-        return put_bytes(b"nan", out, at);
-    }
-    put_hex(f64::to_bits(x) as usize, out, at)
-}
-
-// A decimal number of one or two digits.
-fn put_tens(v: usize, out: &mut [u8], at: usize) -> usize
-    requires { ⌜ (v < 100) × (at + 2 ≤ length (now out)) ⌝ }
-    ensures { λ r. ⌜ r ≤ at + 2 ⌝ }
-    ensures { λ r. ⌜ Written (now (out .entry)) (now (out .exit)) at (text.decimal v) r ⌝ }
-{
-    if v < 10 {
-        return put_digit(v, out, at);
-    }
-    let p = put_digit(v / 10, out, at);
-    put_digit(v % 10, out, p)
-}
-
 pub fn put_decimal(v: usize, out: &mut [u8], at: usize) -> usize
     requires { ⌜ (v < 1000) × (at + 3 ≤ length (now out)) ⌝ }
     ensures { λ r. ⌜ r ≤ at + 3 ⌝ }
     ensures { λ r. ⌜ Written (now (out .entry)) (now (out .exit)) at (text.decimal v) r ⌝ }
 {
-    if v < 100 {
-        return put_tens(v, out, at);
+    if v < 10 {
+        return put_digit(v, out, at);
     }
-    let p = put_tens(v / 10, out, at);
-    put_digit(v % 10, out, p)
+    let tens = v / 10;
+    if v < 100 {
+        let p = put_digit(tens, out, at);
+        return put_digit(v % 10, out, p);
+    }
+    let p = put_digit(tens / 10, out, at);
+    let q = put_digit(tens % 10, out, p);
+    put_digit(v % 10, out, q)
 }

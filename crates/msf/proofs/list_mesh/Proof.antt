@@ -17,8 +17,8 @@ read-mesh-requires c κs = search needs
 enum-known-refusal : tie.Need-enum-known-refusal
 enum-known-refusal c = search needs
 
-refuse-requires : tie.Need-refuse-requires
-refuse-requires c κs = search needs
+put-refused-requires : tie.Need-put-refused-requires
+put-refused-requires c κs = search needs
 
 enum-known-count : tie.Need-enum-known-count
 enum-known-count c = search needs
@@ -44,7 +44,7 @@ returns c =
     let c5 = c2 .before .before .before in
     let c8 = c5 .before .before .before in
     let a = c8 .before .before .before .before .before .args in
-    rw (← (refused-listing (a .kind) (a .file .now) (c8 .read-mesh .ensures) (c5 .refusal .given .1))) (c2 .refuse .ensures)
+    rw (← (refused-listing (a .kind) (a .file .now) (c8 .read-mesh .ensures) (c5 .refusal .given .1))) (c2 .put-refused .ensures)
 
 same-length-2 : tie.Need-same-length-2
 same-length-2 c = search needs
@@ -66,7 +66,7 @@ list-mesh-spec =
     slice-aggregate-read-mesh
     read-mesh-requires
     enum-known-refusal
-    refuse-requires
+    put-refused-requires
     enum-known-count
     slice-aggregate-put-listing
     put-listing-requires

@@ -1,6 +1,6 @@
 -- `msf::read_kind` meets its contract: a case for each mesh type. Assumes nothing.
 use borrow.Author.Needs.{needs}
-use Rattle.msf.specs.File.{ported}
+use Rattle.meshes.specs.Outcomes.{portedReader}
 use Rattle.msf.proofs.read_kind.Statement.{statement}
 use Rattle.msf.proofs.read_kind.Tie as tie
 
@@ -32,7 +32,7 @@ same-length : tie.Need-same-length
 same-length c = search needs
 
 returns : tie.Need-returns
-unfolding ported
+unfolding portedReader
 returns c =
     let c2 = c .before .before in
     rw (c2 .before .before .enum-told .given .1) (c2 .parse-type4-mesh .ensures)
@@ -41,7 +41,7 @@ same-length-2 : tie.Need-same-length-2
 same-length-2 c = search needs
 
 returns-2 : tie.Need-returns-2
-unfolding ported
+unfolding portedReader
 returns-2 c =
     let c2 = c .before .before in
     rw (c2 .before .before .enum-told2 .given .1) (c2 .parse-type5-mesh .ensures)
@@ -50,7 +50,7 @@ same-length-3 : tie.Need-same-length-3
 same-length-3 c = search needs
 
 returns-3 : tie.Need-returns-3
-unfolding ported
+unfolding portedReader
 returns-3 c =
     let c2 = c .before .before in
     rw (c2 .before .before .enum-told3 .given .1) (c2 .parse-type6-patches .ensures)
@@ -59,7 +59,7 @@ same-length-4 : tie.Need-same-length-4
 same-length-4 c = search needs
 
 returns-4 : tie.Need-returns-4
-unfolding ported
+unfolding portedReader
 returns-4 c =
     let c2 = c .before .before in
     rw (c2 .before .before .enum-told4 .given .1) (c2 .parse-type7-patches .ensures)

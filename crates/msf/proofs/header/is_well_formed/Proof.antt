@@ -11,23 +11,23 @@ returns c = too-long _ (c .if1 .taken)
 returns-2 : tie.Need-returns-2
 returns-2 c = too-short _ (c .before .if1 .left) (c .if2 .taken)
 
-number-at-requires : tie.Need-number-at-requires
-number-at-requires c κs = search needs
+big-endian-requires : tie.Need-big-endian-requires
+big-endian-requires c κs = search needs
 
 returns-3 : tie.Need-returns-3
 returns-3 c =
     let c2 = c .before .before in
-    wrong-mark _ (c2 .before .if1 .left) (c2 .if2 .left) (λ e. c .if3 .taken (c .before .number-at .ensures ∙ e))
+    wrong-mark _ (c2 .before .if1 .left) (c2 .if2 .left) (λ e. c .if3 .taken (c .before .big-endian .ensures .0 ∙ e))
 
-number-at-requires-2 : tie.Need-number-at-requires-2
-number-at-requires-2 c κs = search needs
+big-endian-requires-2 : tie.Need-big-endian-requires-2
+big-endian-requires-2 c κs = search needs
 
 returns-4 : tie.Need-returns-4
 returns-4 c =
     let c2 = c .before .before in
     let c4 = c2 .before .before in
-    wrong-version _ (c4 .before .if1 .left) (c4 .if2 .left) (sym (c2 .before .number-at .ensures) ∙ c2 .if3 .left)
-    (λ e. c .if4 .taken (c .before .number-at2 .ensures ∙ e))
+    wrong-version _ (c4 .before .if1 .left) (c4 .if2 .left) (sym (c2 .before .big-endian .ensures .0) ∙ c2 .if3 .left)
+    (λ e. c .if4 .taken (c .before .big-endian2 .ensures .0 ∙ e))
 
 byte-at-requires : tie.Need-byte-at-requires
 byte-at-requires c κs = search needs
@@ -44,8 +44,8 @@ returns-5 c =
     let c3 = c1 .before .before in
     let c5 = c3 .before .before in
     rw (c .byte-at .ensures .0)
-    (by-entries _ (c5 .before .if1 .left) (c5 .if2 .left) (sym (c3 .before .number-at .ensures) ∙ c3 .if3 .left)
-    (sym (c1 .before .number-at2 .ensures) ∙ c1 .if4 .left))
+    (by-entries _ (c5 .before .if1 .left) (c5 .if2 .left) (sym (c3 .before .big-endian .ensures .0) ∙ c3 .if3 .left)
+    (sym (c1 .before .big-endian2 .ensures .0) ∙ c1 .if4 .left))
 
 pub is-well-formed-spec : {M : Type 1} → statement M
 is-well-formed-spec =
@@ -53,9 +53,9 @@ is-well-formed-spec =
     (tie.spec
     returns
     returns-2
-    number-at-requires
+    big-endian-requires
     returns-3
-    number-at-requires-2
+    big-endian-requires-2
     returns-4
     byte-at-requires
     mul-result

@@ -1,6 +1,7 @@
 -- `msf::lines::put_listing` meets its contract: the first line, then the mesh of the kind. Assumes nothing.
 use Rattle.lists.proofs.Writing.{written-then}
-use Rattle.msf.specs.Listing.{strideOf, meshLines}
+use Rattle.msf.specs.Listing.{meshLines}
+use Rattle.msf.specs.Inner.Kinds.{strideOf}
 use Rattle.msf.proofs.Meshes.{vertex-size}
 use borrow.Author.Needs.{needs}
 use Rattle.msf.proofs.lines.put_listing.Statement.{statement}

@@ -4,8 +4,10 @@ use mathlib.Core.Path.{_≡_, refl}
 use native.Mathlib.Omega.{arith}
 use lib.ListN.{length}
 use Rattle.lists.specs.Writing.{Written}
+use Rattle.lists.proofs.Writing.{written-then}
 use Rattle.msf.specs.Listing.{pointLine, lines}
 use Rattle.msf.proofs.Meshes.{lines-none, lines-more}
+use Rattle.msf.proofs.Words.{point-text}
 use borrow.Author.Needs.{needs}
 use Rattle.msf.proofs.lines.put_points.Statement.{statement}
 use Rattle.msf.proofs.lines.put_points.Tie as tie
@@ -20,8 +22,23 @@ abbrev μ-loop : tie.MeasureT-loop
 loop-holds : tie.Need-loop-holds Inv-loop μ-loop
 loop-holds c = (search needs, search needs, search needs, refl, lines-none _ _ _ _ _ _ (omega arith))
 
-put-point-requires : tie.Need-put-point-requires Inv-loop μ-loop
-put-point-requires c κs = search needs
+mul-put-float : tie.Need-mul-put-float Inv-loop μ-loop
+mul-put-float c = search needs
+
+shared-slice-read-put-float : tie.Need-shared-slice-read-put-float Inv-loop μ-loop
+shared-slice-read-put-float c = search needs
+
+put-float-requires : tie.Need-put-float-requires Inv-loop μ-loop
+put-float-requires c κs = search needs
+
+add-put-spaced : tie.Need-add-put-spaced Inv-loop μ-loop
+add-put-spaced c = search needs
+
+put-spaced-requires : tie.Need-put-spaced-requires Inv-loop μ-loop
+put-spaced-requires c κs = search needs
+
+put-byte-requires : tie.Need-put-byte-requires Inv-loop μ-loop
+put-byte-requires c κs = search needs
 
 add-p : tie.Need-add-p Inv-loop μ-loop
 add-p c = search needs
@@ -34,8 +51,13 @@ loop-less c = search needs
 
 loop-again : tie.Need-loop-again Inv-loop μ-loop
 loop-again c =
-    let l = c .before .before .before .before .before .loop in
-    (search needs, omega arith, omega arith, search needs, lines-more pointLine 2 _ _ (l .i) (l .inv .1) (l .inv .4) (c .before .before .put-point .ensures .1))
+    let end = c .before .before in
+    let y = end .before .before .before .before in
+    let x = y .before .before .before .before in
+    let l = x .before .before .before .before .loop in
+    let xs = x .before .before .before .before .before .before .before .args .numbers .now in
+    let w = written-then (written-then (x .put-float .ensures .1) (y .put-spaced .ensures .1)) (end .put-byte .ensures .1) in
+    (search needs, omega arith, omega arith, search needs, lines-more pointLine 2 _ _ (l .i) (l .inv .1) (l .inv .4) (rw (point-text xs (l .p) (omega arith)) w))
 
 same-length : tie.Need-same-length Inv-loop μ-loop
 same-length c = search needs
@@ -53,7 +75,12 @@ put-points-spec =
     Inv-loop
     μ-loop
     loop-holds
-    put-point-requires
+    mul-put-float
+    shared-slice-read-put-float
+    put-float-requires
+    add-put-spaced
+    put-spaced-requires
+    put-byte-requires
     add-p
     add-i
     loop-less
