@@ -1,5 +1,4 @@
 pub mod Floats
-pub mod Bytes
 pub mod Sums
 pub mod Numbered
 pub mod Wholes

@@ -1,5 +1,5 @@
 -- Where a whole case stands, and where none does. Assumes nothing.
-use Prim.Native.Nat.{ℕ, _+_, _*_, _≤_, _<_}
+use Prim.Native.Nat.{ℕ, _+_, _-_, _*_, _≤_, _<_}
 use mathlib.Core.Path.{_≡_, refl}
 use mathlib.Core.Logic.{_↔_}
 use mathlib.Core.Bool.{Bool, true, false, cond, _&&_, and-eq-true-iff}
@@ -12,8 +12,8 @@ use Rattle.replay.specs.declared.calls.Function.{Function}
 use Rattle.replay.specs.declared.calls.Function.the-variants.{Reader, Builder, Unknown}
 use Rattle.replay.specs.declared.replaying.Seen.{Seen}
 use Rattle.replay.specs.declared.replaying.Replayed.the-variants.{Agrees, Differs, Unreadable}
-use Rattle.replay.specs.Cases.{callAt, storedAt, entriesAt, inputAt, roomAt, bytesOf, numbersOf, isKnown, inputPlace, endPlace, isWhole, seenAt, isSame, replayed}
-use Rattle.replay.specs.Walk.{Whole, Moves}
+use Rattle.replay.specs.Cases.{callAt, storedAt, entriesAt, inputAt, roomAt, bytesOf, isKnown, inputPlace, endPlace, isWhole, seenAt, isSame, replayed}
+use Rattle.replay.specs.Inner.Walk.{CaseThere, Moves}
 
 leb-iff : (a b : ℕ) → (leb a b ≡ true) ↔ (a ≤ b)
 leb-iff a b = (leb-true a b, le-leb a b)
@@ -42,7 +42,7 @@ module _ (s : List ℕ) (at : ℕ) where
         unfolding isWhole
         whole-end r = rw (le-leb _ _ headed, known, le-leb _ _ short, le-leb _ _ r)
 
-  pub whole-case : isWhole s at ≡ true → Whole s at
+  pub whole-case : isWhole s at ≡ true → CaseThere s at
   unfolding isWhole
   whole-case h =
       let p = and-eq-true-iff (leb (at + 31) (length s)) (isKnown (callAt s at .function) && (leb (inputAt s at) 1024 && (leb (roomAt s at) 4096 && leb (endPlace s at) (length s)))) .0 h in
@@ -50,32 +50,26 @@ module _ (s : List ℕ) (at : ℕ) where
       let r = simp (and-eq-true-iff, leb-iff) at (q .1) in
       record { header = leb-true _ _ (p .0); input = r .0; room = r .1 .0; end = r .1 .1 }
 
--- a list takes no more than the input's bytes
-listed-fit : (f : Function) (size : ℕ) → 8 * numbersOf f size ≤ bytesOf f size
-listed-fit (Reader kind) size = omega arith
-listed-fit (Builder kind) size = omega arith
-listed-fit Unknown size = omega arith
-
-few-numbers : (f : Function) (size : ℕ) → numbersOf f size ≤ size
-few-numbers (Reader kind) size = omega arith
-few-numbers (Builder kind) size = omega arith
-few-numbers Unknown size = omega arith
+-- an input has at most 8 bytes for each of its length
+few-bytes : (f : Function) (size : ℕ) → bytesOf f size ≤ 8 * size
+few-bytes (Reader kind) size = omega arith
+few-bytes (Builder kind) size = omega arith
+few-bytes Unknown size = omega arith
 
 -- what a whole case needs has room
-pub record Sizes (s : List ℕ) (at entries numbers second end room : ℕ) : Type 0 where
+pub record Sizes (s : List ℕ) (at entries second end room : ℕ) : Type 0 where
   pub entries-end : at + 31 + 8 * entries ≡ second
-  pub numbers-end : second + 8 * numbers ≤ end
+  pub input-end : second ≤ end
   pub file-end : end ≤ length s
-  pub few : numbers ≤ 1024
+  pub few : end - second ≤ 8192
   pub small : room ≤ 4096
 
-pub sizes : (s : List ℕ) (at : ℕ) → Whole s at
-    → Sizes s at (entriesAt s at) (numbersOf (callAt s at .function) (inputAt s at)) (inputPlace s at) (endPlace s at) (roomAt s at)
+pub sizes : (s : List ℕ) (at : ℕ) → CaseThere s at
+    → Sizes s at (entriesAt s at) (inputPlace s at) (endPlace s at) (roomAt s at)
 unfolding inputPlace endPlace
 sizes s at w =
-    let f = listed-fit (callAt s at .function) (inputAt s at) in
-    let n = few-numbers (callAt s at .function) (inputAt s at) in
-    record { entries-end = omega arith; numbers-end = omega arith; file-end = w .end; few = omega (arith, w .input); small = w .room }
+    let n = few-bytes (callAt s at .function) (inputAt s at) in
+    record { entries-end = omega arith; input-end = omega arith; file-end = w .end; few = omega (arith, w .input); small = w .room }
 
 next-of : (whole same : Bool) (seen : Seen) (at next size : ℕ) → (whole ≡ true → (at < next) × (next ≤ size))
     → Moves at size (cond whole (cond same (Agrees next) (Differs seen next)) Unreadable)

@@ -2,16 +2,15 @@
 use Prim.Native.Nat.{ℕ}
 use mathlib.Core.Bool.{cond}
 use mathlib.Core.List.{List, []}
-use mathlib.Core.Option.{none}
 use lib.Dec.{eqb}
 use lib.Ieee.{Float}
 use Rattle.answers.specs.declared.Refusal.the-variants.{File}
 use Rattle.answers.specs.Outcome.{Outcome, refused}
 use Rattle.records.specs.declared.shape.Kind.{Kind}
 use Rattle.records.specs.declared.shape.Kind.the-variants.{Four, Five, Six, Seven}
-use Rattle.rules.specs.Ported.{binaryReader, listBuilder}
+use Rattle.rules.specs.Ported.{listBuilder}
 use Rattle.rules.specs.Patches.{sides, listSides}
-use Rattle.meshes.specs.Outcomes.{parse4, parse5, parse6, parse7, build4, build5, build6, build7}
+use Rattle.meshes.specs.Outcomes.{portedReader, build4, build5, build6, build7}
 use Rattle.replay.specs.declared.calls.Function.{Function}
 use Rattle.replay.specs.declared.calls.Function.the-variants.{Reader, Builder, Unknown}
 use Rattle.replay.specs.declared.calls.Call.{Call}
@@ -28,13 +27,6 @@ functionOf x =
     (cond (eqb x 17) (Builder Seven)
     Unknown)))))))
 
--- a reader over the bytes s and Decode's entries
-abbrev pub readerOutcome : Kind → Call → List ℕ → List Float → ℕ → Outcome Float
-readerOutcome Four c s entries room = parse4 (binaryReader none 0) s (c .coord) (c .comp) (c .flag) entries (c .n) room
-readerOutcome Five c s entries room = parse5 s (c .coord) (c .comp) entries (c .n) (c .row) room
-readerOutcome Six c s entries room = parse6 sides s (c .coord) (c .comp) (c .flag) entries (c .n) room
-readerOutcome Seven c s entries room = parse7 sides s (c .coord) (c .comp) (c .flag) entries (c .n) room
-
 -- a builder over the numbers vs
 abbrev pub builderOutcome : Kind → Call → List Float → ℕ → Outcome Float
 builderOutcome Four c vs room = build4 (listBuilder [] 0) vs (c .n) room
@@ -43,7 +35,7 @@ builderOutcome Six c vs room = build6 sides vs (c .n) room
 builderOutcome Seven c vs room = build7 listSides vs (c .n) room
 
 abbrev pub outcomeOf : Function → Call → List ℕ → List Float → List Float → ℕ → Outcome Float
-outcomeOf (Reader kind) c s entries vs room = readerOutcome kind c s entries room
+outcomeOf (Reader kind) c s entries vs room = portedReader kind s (c .coord) (c .comp) (c .flag) entries (c .n) (c .row) room
 outcomeOf (Builder kind) c s entries vs room = builderOutcome kind c vs room
 outcomeOf Unknown c s entries vs room = refused File
 

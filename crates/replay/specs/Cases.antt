@@ -1,18 +1,18 @@
 -- A stored case, by the format at the top of src/main.rt, and what replaying it comes to.
-use Prim.Native.Nat.{ℕ, _+_, _-_, _*_}
+use Prim.Native.Nat.{ℕ, _+_, _-_, _*_, _/_}
 use mathlib.Core.Bool.{Bool, true, false, cond, _&&_}
 use mathlib.Core.List.{List}
 use lib.ListN.{length, take, drop, replicate}
 use lib.Dec.{leb, eqb}
 use lib.Ieee.{Float, binary64, ofBits}
 use Rattle.answers.specs.Outcome.{Outcome, tells, leaves}
+use Rattle.decode.specs.Stored.{bigEndian, floatsAt}
 use Rattle.replay.specs.declared.calls.Function.{Function}
 use Rattle.replay.specs.declared.calls.Function.the-variants.{Reader, Builder, Unknown}
 use Rattle.replay.specs.declared.calls.Call.{Call}
 use Rattle.replay.specs.declared.replaying.Seen.{Seen}
 use Rattle.replay.specs.declared.replaying.Replayed.{Replayed}
 use Rattle.replay.specs.declared.replaying.Replayed.the-variants.{Agrees, Differs, Unreadable}
-use Rattle.replay.specs.Fields.{numberAt, floatsAt}
 use Rattle.replay.specs.Digest.{digest}
 use Rattle.replay.specs.Calls.{functionOf, outcome}
 
@@ -21,31 +21,31 @@ use Rattle.replay.specs.Calls.{functionOf, outcome}
 unfoldable pub callAt : List ℕ → ℕ → Call
 callAt s at =
     record {
-      function = functionOf (numberAt s at 1);
-      coord = numberAt s (at + 1) 1;
-      comp = numberAt s (at + 2) 1;
-      flag = numberAt s (at + 3) 1;
-      n = numberAt s (at + 4) 1;
-      row = numberAt s (at + 5) 2;
+      function = functionOf (bigEndian s at 1);
+      coord = bigEndian s (at + 1) 1;
+      comp = bigEndian s (at + 2) 1;
+      flag = bigEndian s (at + 3) 1;
+      n = bigEndian s (at + 4) 1;
+      row = bigEndian s (at + 5) 2;
     }
 
 abbrev pub entriesAt : List ℕ → ℕ → ℕ
-entriesAt s at = numberAt s (at + 7) 1
+entriesAt s at = bigEndian s (at + 7) 1
 
 abbrev pub inputAt : List ℕ → ℕ → ℕ
-inputAt s at = numberAt s (at + 8) 2
+inputAt s at = bigEndian s (at + 8) 2
 
 abbrev pub roomAt : List ℕ → ℕ → ℕ
-roomAt s at = numberAt s (at + 10) 2
+roomAt s at = bigEndian s (at + 10) 2
 
 -- the answer that is stored
 unfoldable pub storedAt : List ℕ → ℕ → Seen
 storedAt s at =
     record {
-      refused = numberAt s (at + 12) 1;
-      count = numberAt s (at + 13) 2;
-      first = numberAt s (at + 15) 8;
-      second = numberAt s (at + 23) 8;
+      refused = bigEndian s (at + 12) 1;
+      count = bigEndian s (at + 13) 2;
+      first = bigEndian s (at + 15) 8;
+      second = bigEndian s (at + 23) 8;
     }
 
 -- how many bytes an input takes
@@ -53,12 +53,6 @@ abbrev pub bytesOf : Function → ℕ → ℕ
 bytesOf (Reader kind) size = size
 bytesOf (Builder kind) size = 8 * size
 bytesOf Unknown size = 0
-
--- how many numbers a list has that is given as the input
-abbrev pub numbersOf : Function → ℕ → ℕ
-numbersOf (Reader kind) size = 0
-numbersOf (Builder kind) size = size
-numbersOf Unknown size = 0
 
 abbrev pub isKnown : Function → Bool
 isKnown (Reader kind) = true
@@ -97,13 +91,13 @@ seenOf o entry =
       second = digest (leaves o entry) .second;
     }
 
--- the outcome of the stored call
+-- the outcome of the stored call; its input is given as bytes, which a reader takes, and as numbers, which a builder takes
 unfoldable pub outcomeAt : List ℕ → ℕ → Outcome Float
 outcomeAt s at =
     outcome (callAt s at)
     (take (endPlace s at - inputPlace s at) (drop (inputPlace s at) s))
     (floatsAt s (at + 31) (entriesAt s at))
-    (floatsAt s (inputPlace s at) (numbersOf (callAt s at .function) (inputAt s at)))
+    (floatsAt s (inputPlace s at) ((endPlace s at - inputPlace s at) / 8))
     (roomAt s at)
 
 unfoldable pub seenAt : List ℕ → ℕ → Seen

@@ -1,6 +1,5 @@
-pub mod Fields
 pub mod Digest
 pub mod Calls
 pub mod Cases
-pub mod Walk
+pub mod Inner
 pub mod Tallies

@@ -2,7 +2,8 @@
 ghost use mathlib.Core.Path.{_≡_};
 ghost use lib.ListN.{length};
 ghost use Rattle.answers.specs.Outcome.{Done};
-ghost use Rattle.replay.specs.Calls.{functionOf, readerOutcome, builderOutcome, outcome};
+ghost use Rattle.meshes.specs.Outcomes.{portedReader};
+ghost use Rattle.replay.specs.Calls.{functionOf, builderOutcome, outcome};
 use answers::Answer;
 use answers::Refusal;
 use records::shape::Kind;
@@ -41,7 +42,7 @@ pub fn function_of(number: usize) -> Function
 }
 
 fn read(kind: Kind, call: Call, data: &[u8], decode: &[f64], out: &mut [f64]) -> Answer
-    ensures { λ r. ⌜ Done (readerOutcome kind call (now («data» .entry)) (now (decode .entry)) (length (now (out .entry)))) (now (out .entry)) r (now (out .exit)) ⌝ }
+    ensures { λ r. ⌜ Done (portedReader kind (now («data» .entry)) (call .coord) (call .comp) (call .flag) (now (decode .entry)) (call .n) (call .row) (length (now (out .entry)))) (now (out .entry)) r (now (out .exit)) ⌝ }
 {
     let coord = call.coord;
     let comp = call.comp;

@@ -22,11 +22,11 @@ ghost use mathlib.Core.Path.{_≡_};
 ghost use Rattle.replay.specs.Tallies.{tally};
 use crate::replaying::Replayed;
 use crate::replaying::Seen;
+use decode::stored::big_endian;
 use libc::STDOUT_FILENO;
 
 mod calls;
 mod digests;
-mod fields;
 mod replaying;
 
 // The cases of a file that agree and that disagree.
@@ -44,11 +44,6 @@ fn print_number(text: &[u8], number: u64) {
     io::print_decimal(STDOUT_FILENO, number);
 }
 
-fn print_bits(text: &[u8], number: u64) {
-    print(text);
-    io::print_hex(STDOUT_FILENO, number, 16);
-}
-
 fn print_unreadable(name: &[u8], number: u64) {
     print(name);
     print_number(b": case ", number);
@@ -61,16 +56,11 @@ fn print_seen(name: &[u8], number: u64, function: u64, seen: Seen) {
     print_number(b", function ", function);
     print_number(b", answers refused ", seen.refused as u64);
     print_number(b", count ", seen.count as u64);
-    print_bits(b", sums ", seen.first);
-    print_bits(b" ", seen.second);
+    print(b", sums ");
+    io::print_hex(STDOUT_FILENO, seen.first, 16);
+    print(b" ");
+    io::print_hex(STDOUT_FILENO, seen.second, 16);
     print(b"\n");
-}
-
-fn print_tally(name: &[u8], tally: Tally) {
-    print(name);
-    print_number(b": ", tally.agree);
-    print_number(b" agree, ", tally.disagree);
-    print(b" disagree\n");
 }
 
 // Replays the cases of a file one by one, and prints those that disagree.
@@ -88,7 +78,7 @@ fn replay_file(name: &[u8], file: &[u8]) -> Tally
                 at = next;
             }
             Replayed::Differs(seen, next) => {
-                print_seen(name, number, fields::wide(file[at]), seen);
+                print_seen(name, number, big_endian(file, at, 1), seen);
                 disagree += 1;
                 at = next;
             }
@@ -102,7 +92,11 @@ fn replay_file(name: &[u8], file: &[u8]) -> Tally
     Tally { agree, disagree }
 }
 
-fn replay_named(name: &[u8]) {
+// Replays the file that an argument names, and prints its tally.
+fn replay_argument(i: usize) {
+    let mut buffer = io::buffer();
+    let length = os::arg(i, &mut buffer);
+    let name = &buffer[..length];
     let fd = os::open_read(name);
     if fd < 0 {
         print(name);
@@ -118,13 +112,10 @@ fn replay_named(name: &[u8]) {
         return;
     }
     let tally = replay_file(name, &file[..n]);
-    print_tally(name, tally);
-}
-
-fn replay_argument(i: usize) {
-    let mut name = io::buffer();
-    let length = os::arg(i, &mut name);
-    replay_named(&name[..length]);
+    print(name);
+    print_number(b": ", tally.agree);
+    print_number(b" agree, ", tally.disagree);
+    print(b" disagree\n");
 }
 
 fn main() {

@@ -1,15 +1,17 @@
 // One stored case, replayed.
 ghost use mathlib.Core.Path.{_≡_};
-ghost use Prim.Native.Nat.{_+_, _*_, _<_, _≤_};
+ghost use Prim.Native.Nat.{_+_, _*_, _^_, _<_, _≤_};
 ghost use lib.ListN.{length};
+ghost use Rattle.decode.specs.Stored.{bigEndian};
 ghost use Rattle.replay.specs.Calls.{outcome};
-ghost use Rattle.replay.specs.Cases.{callAt, storedAt, bytesOf, numbersOf, isKnown, inputPlace, endPlace, isWhole, seenOf, seenAt, isSame, replayed};
-ghost use Rattle.replay.specs.Walk.{Whole, Moves};
+ghost use Rattle.replay.specs.Cases.{callAt, storedAt, bytesOf, isKnown, inputPlace, endPlace, isWhole, seenOf, seenAt, isSame, replayed};
+ghost use Rattle.replay.specs.Inner.Walk.{CaseThere, Moves};
 use crate::calls;
 use crate::calls::Call;
 use crate::calls::Function;
 use crate::digests;
-use crate::fields;
+use decode::stored::big_endian;
+use decode::stored::read_floats;
 
 // What a call has answered, and the sums of the lent output after it.
 pub struct Seen {
@@ -26,6 +28,14 @@ pub enum Replayed {
     Unreadable,
 }
 
+// A number of so many bytes, which are there.
+fn size(file: &[u8], at: usize, k: usize) -> usize
+    requires { ⌜ (at + k ≤ length (now file)) × (k ≤ 8) ⌝ }
+    ensures { λ r. ⌜ (r ≡ bigEndian (now (file .entry)) at k) × (r < 256 ^ k) ⌝ }
+{
+    big_endian(file, at, k) as usize
+}
+
 // How many bytes an input takes.
 fn byte_count(function: Function, size: usize) -> usize
     requires { ⌜ size < 65536 ⌝ }
@@ -34,17 +44,6 @@ fn byte_count(function: Function, size: usize) -> usize
     match function {
         Function::Reader(_) => size,
         Function::Builder(_) => 8 * size,
-        Function::Unknown => 0,
-    }
-}
-
-// How many numbers a list has that is given as the input.
-fn number_count(function: Function, size: usize) -> usize
-    ensures { λ r. ⌜ r ≡ numbersOf function size ⌝ }
-{
-    match function {
-        Function::Reader(_) => 0,
-        Function::Builder(_) => size,
         Function::Unknown => 0,
     }
 }
@@ -64,12 +63,12 @@ fn call_at(file: &[u8], at: usize) -> Call
     ensures { λ r. ⌜ r ≡ callAt (now (file .entry)) at ⌝ }
 {
     Call {
-        function: calls::function_of(fields::size(file, at, 1)),
-        coord: fields::size(file, at + 1, 1),
-        comp: fields::size(file, at + 2, 1),
-        flag: fields::size(file, at + 3, 1),
-        n: fields::size(file, at + 4, 1),
-        row: fields::size(file, at + 5, 2),
+        function: calls::function_of(size(file, at, 1)),
+        coord: size(file, at + 1, 1),
+        comp: size(file, at + 2, 1),
+        flag: size(file, at + 3, 1),
+        n: size(file, at + 4, 1),
+        row: size(file, at + 5, 2),
     }
 }
 
@@ -78,10 +77,10 @@ fn stored_at(file: &[u8], at: usize) -> Seen
     ensures { λ r. ⌜ r ≡ storedAt (now (file .entry)) at ⌝ }
 {
     Seen {
-        refused: fields::size(file, at + 12, 1),
-        count: fields::size(file, at + 13, 2),
-        first: fields::number(file, at + 15, 8),
-        second: fields::number(file, at + 23, 8),
+        refused: size(file, at + 12, 1),
+        count: size(file, at + 13, 2),
+        first: size(file, at + 15, 8) as u64,
+        second: size(file, at + 23, 8) as u64,
     }
 }
 
@@ -89,7 +88,7 @@ fn input_place(file: &[u8], at: usize) -> usize
     requires { ⌜ at + 31 ≤ length (now file) ⌝ }
     ensures { λ r. ⌜ (r ≡ inputPlace (now (file .entry)) at) × (r < at + 2079) ⌝ }
 {
-    at + 31 + 8 * fields::size(file, at + 7, 1)
+    at + 31 + 8 * size(file, at + 7, 1)
 }
 
 fn end_place(file: &[u8], at: usize) -> usize
@@ -97,7 +96,7 @@ fn end_place(file: &[u8], at: usize) -> usize
     ensures { λ r. ⌜ r ≡ endPlace (now (file .entry)) at ⌝ }
 {
     let function = call_at(file, at).function;
-    input_place(file, at) + byte_count(function, fields::size(file, at + 8, 2))
+    input_place(file, at) + byte_count(function, size(file, at + 8, 2))
 }
 
 fn is_whole(file: &[u8], at: usize) -> bool
@@ -113,10 +112,10 @@ fn is_whole(file: &[u8], at: usize) -> bool
     if !is_known(function) {
         return false;
     }
-    if fields::size(file, at + 8, 2) > 1024 {
+    if size(file, at + 8, 2) > 1024 {
         return false;
     }
-    if fields::size(file, at + 10, 2) > 4096 {
+    if size(file, at + 10, 2) > 4096 {
         return false;
     }
     end_place(file, at) <= file.len()
@@ -138,21 +137,20 @@ fn seen_of(call: Call, data: &[u8], decode: &[f64], values: &[f64], out: &mut [f
 
 // Makes the call of a whole case, on its own numbers.
 fn seen_at(file: &[u8], at: usize) -> Seen
-    requires { ⌜ Whole (now file) at ⌝ }
+    requires { ⌜ CaseThere (now file) at ⌝ }
     ensures { λ r. ⌜ r ≡ seenAt (now (file .entry)) at ⌝ }
 {
     let call = call_at(file, at);
-    let entries = fields::size(file, at + 7, 1);
-    let function = call.function;
-    let numbers = number_count(function, fields::size(file, at + 8, 2));
-    let room = fields::size(file, at + 10, 2);
+    let entries = size(file, at + 7, 1);
+    let room = size(file, at + 10, 2);
     let first = at + 31;
     let second = input_place(file, at);
     let end = end_place(file, at);
+    let numbers = (end - second) / 8;
     let mut decode = [0.0f64; 256];
-    fields::floats(file, first, entries, &mut decode);
+    read_floats(file, first, entries, &mut decode);
     let mut values = [0.0f64; 1024];
-    fields::floats(file, second, numbers, &mut values);
+    read_floats(file, second, numbers, &mut values);
     let mut out = [-7.25f64; 4096];
     seen_of(
         call,

@@ -3,7 +3,7 @@ use Prim.Native.Nat.{_+_, _-_, _≤_}
 use mathlib.Core.Path.{sym, subst, _∙_}
 use native.Mathlib.Omega.{arith}
 use lib.ListN.{length}
-use Rattle.replay.specs.Walk.{Moves}
+use Rattle.replay.specs.Inner.Walk.{Moves}
 use Rattle.replay.proofs.Tallying.{Counting, counting-start, counting-agrees, counting-differs, counting-cut, counting-end}
 use borrow.Author.Needs.{needs}
 use Rattle.replay.proofs.replay_file.Statement.{statement}
@@ -55,36 +55,33 @@ loop-again c =
 enum-known-seen : tie.Need-enum-known-seen Inv-loop μ-loop
 enum-known-seen c = search needs
 
-shared-slice-read-wide : tie.Need-shared-slice-read-wide Inv-loop μ-loop
-shared-slice-read-wide c = search needs
-
-wide-requires : tie.Need-wide-requires Inv-loop μ-loop
-wide-requires c κs = search needs
+big-endian-requires : tie.Need-big-endian-requires Inv-loop μ-loop
+big-endian-requires c κs = search needs
 
 print-seen-requires : tie.Need-print-seen-requires Inv-loop μ-loop
 print-seen-requires c κs = search needs
 
 add-disagree : tie.Need-add-disagree Inv-loop μ-loop
 add-disagree c =
-    let r = c .before .before .before .before .before .before in
+    let r = c .before .before .before .before .before in
     let l = r .before .before .loop in
-    let m = subst (Moves (l .at) (length (r .before .before .before .before .before .args .file .now))) (c .before .before .before .before .seen .given .1) (r .replay .ensures .1) in
+    let m = subst (Moves (l .at) (length (r .before .before .before .before .before .args .file .now))) (c .before .before .before .seen .given .1) (r .replay .ensures .1) in
     search needs
 
 loop-less-2 : tie.Need-loop-less-2 Inv-loop μ-loop
 loop-less-2 c =
-    let r = c .before .before .before .before .before .before in
+    let r = c .before .before .before .before .before in
     let l = r .before .before .loop in
-    let m = subst (Moves (l .at) (length (r .before .before .before .before .before .args .file .now))) (c .before .before .before .before .seen .given .1) (r .replay .ensures .1) in
+    let m = subst (Moves (l .at) (length (r .before .before .before .before .before .args .file .now))) (c .before .before .before .seen .given .1) (r .replay .ensures .1) in
     search needs
 
 loop-again-2 : tie.Need-loop-again-2 Inv-loop μ-loop
 loop-again-2 c =
-    let r = c .before .before .before .before .before .before in
+    let r = c .before .before .before .before .before in
     let l = r .before .before .loop in
     let f = r .before .before .before .before .before .args .file .now in
-    let m = subst (Moves (l .at) (length f)) (c .before .before .before .before .seen .given .1) (r .replay .ensures .1) in
-    (m .1, omega arith, counting-differs f _ _ _ (omega arith) (l .inv .2) (sym (r .replay .ensures .0) ∙ c .before .before .before .before .seen .given .1) (m .0))
+    let m = subst (Moves (l .at) (length f)) (c .before .before .before .seen .given .1) (r .replay .ensures .1) in
+    (m .1, omega arith, counting-differs f _ _ _ (omega arith) (l .inv .2) (sym (r .replay .ensures .0) ∙ c .before .before .before .seen .given .1) (m .0))
 
 enum-told : tie.Need-enum-told Inv-loop μ-loop
 enum-told c = search needs
@@ -124,8 +121,7 @@ replay-file-spec =
     loop-less
     loop-again
     enum-known-seen
-    shared-slice-read-wide
-    wide-requires
+    big-endian-requires
     print-seen-requires
     add-disagree
     loop-less-2

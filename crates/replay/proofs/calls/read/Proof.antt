@@ -1,4 +1,5 @@
 -- `replay::calls::read` meets its contract: the mesh type picks the function. Assumes nothing.
+use Rattle.meshes.specs.Outcomes.{portedReader}
 use borrow.Author.Needs.{needs}
 use Rattle.replay.proofs.calls.read.Statement.{statement}
 use Rattle.replay.proofs.calls.read.Tie as tie
@@ -31,24 +32,28 @@ same-length : tie.Need-same-length
 same-length c = search needs
 
 returns : tie.Need-returns
+unfolding portedReader
 returns c = rw (c .before .before .before .before .enum-told .given .1) (c .before .before .parse-type4-mesh .ensures)
 
 same-length-2 : tie.Need-same-length-2
 same-length-2 c = search needs
 
 returns-2 : tie.Need-returns-2
+unfolding portedReader
 returns-2 c = rw (c .before .before .before .before .enum-told2 .given .1) (c .before .before .parse-type5-mesh .ensures)
 
 same-length-3 : tie.Need-same-length-3
 same-length-3 c = search needs
 
 returns-3 : tie.Need-returns-3
+unfolding portedReader
 returns-3 c = rw (c .before .before .before .before .enum-told3 .given .1) (c .before .before .parse-type6-patches .ensures)
 
 same-length-4 : tie.Need-same-length-4
 same-length-4 c = search needs
 
 returns-4 : tie.Need-returns-4
+unfolding portedReader
 returns-4 c = rw (c .before .before .before .before .enum-told4 .given .1) (c .before .before .parse-type7-patches .ensures)
 
 pub read-spec : {M : Type 1} → statement M

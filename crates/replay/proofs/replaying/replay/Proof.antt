@@ -4,7 +4,7 @@ use lib.ListN.{length}
 use borrow.Author.Tests.{not-true, not-false}
 use Rattle.replay.specs.declared.replaying.Replayed.the-variants.{Agrees, Differs}
 use Rattle.replay.specs.Cases.{replayed}
-use Rattle.replay.specs.Walk.{Moves}
+use Rattle.replay.specs.Inner.Walk.{Moves}
 use Rattle.replay.proofs.Wholes.{whole-case, replayed-moves}
 use borrow.Author.Needs.{needs}
 use Rattle.replay.proofs.replaying.replay.Statement.{statement}

@@ -1,9 +1,12 @@
 -- `replay::replaying::seen_at` meets its contract: the case's own numbers stand where the call finds them, and the output is filled. Assumes nothing.
-use Prim.Native.Nat.{_+_, _-_}
+use Prim.Native.Nat.{_+_, _-_, _/_}
 use mathlib.Core.Path.{ap, _∙_}
+use native.Mathlib.Omega.{arith}
 use lib.ListN.{take, replicate}
 use lib.Ieee.{ofBits, neg}
-use Rattle.replay.specs.Fields.{floatsAt}
+use Rattle.decode.specs.Floats.{float0}
+use Rattle.decode.specs.Stored.{floatsAt}
+use Rattle.decode.proofs.BigEndian.{floats-there}
 use Rattle.replay.specs.Cases.{roomAt, filler, outcomeAt, seenAt}
 use Rattle.replay.proofs.Wholes.{Sizes, sizes}
 use Rattle.replay.proofs.Seeing.{seen-same, part-filled, part-written}
@@ -13,13 +16,13 @@ use Rattle.replay.proofs.replaying.seen_at.Tie as tie
 
 -- where the numbers of the case stand
 within : (k : tie.After-end-place)
-    → let n = k .before .before .before in
-    Sizes (n .before .before .before .before .before .args .file .now) (n .before .before .before .before .before .args .at) (n .before .before .size .result) (n .number-count .result) (k .before .input-place .result) (k .end-place .result) (k .before .before .size3 .result)
+    → let n = k .before .before in
+    let a = n .before .before .before .before in
+    Sizes (a .args .file .now) (a .args .at) (n .before .size .result) (k .before .input-place .result) (k .end-place .result) (n .size2 .result)
 within k =
-    let n = k .before .before .before in
-    let a = n .before .before .before .before .before in
-    let f = n .before .before .before .call-at .ensures in
-    rw (n .before .before .size .ensures .0, n .number-count .ensures, n .before .size2 .ensures .0, f, k .before .input-place .ensures .0, k .end-place .ensures, k .before .before .size3 .ensures .0) (sizes (a .args .file .now) (a .args .at) (a .pre))
+    let n = k .before .before in
+    let a = n .before .before .before .before in
+    rw (n .before .size .ensures .0, k .before .input-place .ensures .0, k .end-place .ensures, n .size2 .ensures .0) (sizes (a .args .file .now) (a .args .at) (a .pre))
 
 call-at-requires : tie.Need-call-at-requires
 call-at-requires c κs = search needs
@@ -36,15 +39,6 @@ add-size-2 c = search needs
 size-requires-2 : tie.Need-size-requires-2
 size-requires-2 c κs = search needs
 
-number-count-requires : tie.Need-number-count-requires
-number-count-requires c κs = search needs
-
-add-size-3 : tie.Need-add-size-3
-add-size-3 c = search needs
-
-size-requires-3 : tie.Need-size-requires-3
-size-requires-3 c κs = search needs
-
 add-first : tie.Need-add-first
 add-first c = search needs
 
@@ -54,21 +48,22 @@ input-place-requires c κs = search needs
 end-place-requires : tie.Need-end-place-requires
 end-place-requires c κs = search needs
 
-slice-aggregate-floats : tie.Need-slice-aggregate-floats
-slice-aggregate-floats c = search needs
-
-floats-requires : tie.Need-floats-requires
-floats-requires c κs =
-    let z = within (c .before) in
+sub-numbers : tie.Need-sub-numbers
+sub-numbers c =
+    let z = within c in
     search needs
 
-slice-aggregate-floats-2 : tie.Need-slice-aggregate-floats-2
-slice-aggregate-floats-2 c = search needs
+slice-aggregate-read-floats : tie.Need-slice-aggregate-read-floats
+slice-aggregate-read-floats c = search needs
 
-floats-requires-2 : tie.Need-floats-requires-2
-floats-requires-2 c κs =
-    let z = within (c .before .before .before .before) in
-    search needs
+read-floats-requires : tie.Need-read-floats-requires
+read-floats-requires c κs = search needs
+
+slice-aggregate-read-floats-2 : tie.Need-slice-aggregate-read-floats-2
+slice-aggregate-read-floats-2 c = search needs
+
+read-floats-requires-2 : tie.Need-read-floats-requires-2
+read-floats-requires-2 c κs = search needs
 
 sub-seen-of : tie.Need-sub-seen-of
 sub-seen-of c =
@@ -99,7 +94,9 @@ part-seen-of-start-3 : tie.Need-part-seen-of-start-3
 part-seen-of-start-3 c = search needs
 
 part-seen-of-end-3 : tie.Need-part-seen-of-end-3
-part-seen-of-end-3 c = search needs
+part-seen-of-end-3 c =
+    let z = within (c .before .before .before .before .before .before .before .before .before .before) in
+    search needs
 
 sub-seen-of-4 : tie.Need-sub-seen-of-4
 sub-seen-of-4 c = search needs
@@ -121,16 +118,22 @@ returns c =
     let es = vs .before .before .before in
     let e = es .before .before in
     let i = e .before in
-    let n = i .before .before in
-    let a = n .before .before .before .before .before in
-    let call = n .before .before .before .call-at .ensures in
+    let r = i .before in
+    let n = r .before in
+    let a = n .before .before .before in
+    let s = a .args .file .now in
+    let at = a .args .at in
+    let k = n .size .result in
+    let second = i .input-place .result in
+    let numbers = (e .end-place .result - second) / 8 in
+    let z = within e in
     m .seen-of .ensures
-    ∙ seen-same (take (i .before .size3 .result - 0) (replicate 4096 filler)) (roomAt (a .args .file .now) (a .args .at))
-    call
+    ∙ seen-same (take (r .size2 .result - 0) (replicate 4096 filler)) (roomAt s at)
+    (n .before .call-at .ensures)
     (rw (e .end-place .ensures, i .input-place .ensures .0))
-    (part-written (es .floats .ensures) ∙ ap (floatsAt (a .args .file .now) (a .args .at + 31)) (n .before .before .size .ensures .0))
-    (part-written (vs .floats2 .ensures) ∙ rw (i .input-place .ensures .0, n .number-count .ensures, call, n .before .size2 .ensures .0))
-    (rw (i .before .size3 .ensures .0) (part-filled (roomAt (a .args .file .now) (a .args .at)) 4096 filler (a .pre .room)))
+    (part-written (floats-there s (at + 31) k (replicate 256 float0) (omega arith) (omega arith) (es .read-floats .ensures)) ∙ ap (floatsAt s (at + 31)) (n .size .ensures .0))
+    (part-written (floats-there s second numbers (replicate 1024 float0) (omega arith) (omega arith) (vs .read-floats2 .ensures)) ∙ rw (i .input-place .ensures .0, e .end-place .ensures))
+    (rw (r .size2 .ensures .0) (part-filled (roomAt s at) 4096 filler (a .pre .room)))
 
 pub seen-at-spec : {M : Type 1} → statement M
 seen-at-spec =
@@ -141,16 +144,14 @@ seen-at-spec =
     size-requires
     add-size-2
     size-requires-2
-    number-count-requires
-    add-size-3
-    size-requires-3
     add-first
     input-place-requires
     end-place-requires
-    slice-aggregate-floats
-    floats-requires
-    slice-aggregate-floats-2
-    floats-requires-2
+    sub-numbers
+    slice-aggregate-read-floats
+    read-floats-requires
+    slice-aggregate-read-floats-2
+    read-floats-requires-2
     sub-seen-of
     part-seen-of-start
     part-seen-of-end

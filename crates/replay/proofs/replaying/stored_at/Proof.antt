@@ -16,24 +16,24 @@ add-size-2 c = search needs
 size-requires-2 : tie.Need-size-requires-2
 size-requires-2 c κs = search needs
 
-add-number : tie.Need-add-number
-add-number c = search needs
+add-size-3 : tie.Need-add-size-3
+add-size-3 c = search needs
 
-number-requires : tie.Need-number-requires
-number-requires c κs = search needs
+size-requires-3 : tie.Need-size-requires-3
+size-requires-3 c κs = search needs
 
-add-number-2 : tie.Need-add-number-2
-add-number-2 c = search needs
+add-size-4 : tie.Need-add-size-4
+add-size-4 c = search needs
 
-number-requires-2 : tie.Need-number-requires-2
-number-requires-2 c κs = search needs
+size-requires-4 : tie.Need-size-requires-4
+size-requires-4 c κs = search needs
 
 returns : tie.Need-returns
 unfolding storedAt
 returns c =
     let c3 = c .before in
     let c2 = c3 .before in
-    rw (c2 .before .size .ensures .0, c2 .size2 .ensures .0, c3 .number .ensures .0, c .number2 .ensures .0)
+    rw (c2 .before .size .ensures .0, c2 .size2 .ensures .0, c3 .size3 .ensures .0, c .size4 .ensures .0)
 
 pub stored-at-spec : {M : Type 1} → statement M
 stored-at-spec =
@@ -43,8 +43,8 @@ stored-at-spec =
     size-requires
     add-size-2
     size-requires-2
-    add-number
-    number-requires
-    add-number-2
-    number-requires-2
+    add-size-3
+    size-requires-3
+    add-size-4
+    size-requires-4
     returns)

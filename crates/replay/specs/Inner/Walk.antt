@@ -7,7 +7,7 @@ use Rattle.replay.specs.declared.replaying.Replayed.the-variants.{Agrees
 use Rattle.replay.specs.Cases.{inputAt, roomAt, endPlace}
 
 -- a whole case within the limits stands at an index
-pub record Whole (s : List ℕ) (at : ℕ) : Type 0 where
+pub record CaseThere (s : List ℕ) (at : ℕ) : Type 0 where
   pub header : at + 31 ≤ length s
   pub input : inputAt s at ≤ 1024
   pub room : roomAt s at ≤ 4096
