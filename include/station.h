@@ -63,7 +63,7 @@ mesh_answer mesh_parse_type6(const uint8_t *data, size_t data_len, size_t coord,
 mesh_answer mesh_parse_type7(const uint8_t *data, size_t data_len, size_t coord, size_t comp,
     size_t flag, const double *decode, size_t decode_len, size_t n, double *out, size_t out_len);
 
-/* ---- Meshes from bytes, as ISO 32000-1 says: the same meshes */
+/* ---- Meshes from bytes, as ISO 32000-1 says, but for what docs/DIFFERENCES.md lists: the same meshes */
 
 /* Reads a free-form triangle mesh (Type 4). */
 mesh_answer mesh_published_type4(const uint8_t *data, size_t data_len, size_t coord, size_t comp,
@@ -83,7 +83,8 @@ mesh_answer mesh_published_type7(const uint8_t *data, size_t data_len, size_t co
 
 /* ---- Meshes from a list of numbers, flags among them, as the original Rust builds them */
 
-/* Builds a free-form triangle mesh (Type 4). After a flag 2 it differs from the reading of bytes. */
+/* Builds a free-form triangle mesh (Type 4). It and the reading of bytes part only where a triangle comes by flag 2 right
+ * after one that came by flag 2. */
 mesh_answer mesh_build_type4(const double *values, size_t values_len, size_t n, double *out,
     size_t out_len);
 

@@ -134,7 +134,8 @@ pub enum MeshKind {
     Type7,
 }
 
-/// Whose rules are followed: those of the original Rust, or those of ISO 32000-1.
+/// Whose rules are followed: those of the original Rust, or those of ISO 32000-1,
+/// but for what docs/DIFFERENCES.md lists.
 #[derive(Clone, Copy, Debug, PartialEq, Eq)]
 pub enum Reading {
     Ported,

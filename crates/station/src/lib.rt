@@ -2,6 +2,7 @@
 ghost use mathlib.Core.List.{[]};
 ghost use mathlib.Core.Option.{none};
 ghost use lib.ListN.{length};
+ghost use Rattle.answers.specs.Outcome.{Tells};
 ghost use Rattle.records.specs.declared.shape.Kind.the-variants as Kind;
 ghost use Rattle.records.specs.Raw.{rawRead};
 ghost use Rattle.packing.specs.Writer.{rawWrite};
@@ -9,7 +10,6 @@ ghost use Rattle.rules.specs.Triangles.{triangleBefore, triangles};
 ghost use Rattle.rules.specs.Ported.{binaryReader, listBuilder};
 ghost use Rattle.rules.specs.Patches.{sides, listSides};
 ghost use Rattle.meshes.specs.Outcomes.{parse4, parse5, parse6, parse7, build4, build5, build6, build7};
-ghost use Rattle.station.specs.Tells.{Tells};
 use answers::Told;
 
 // Meshes from bytes, as 000 reads them.
@@ -74,7 +74,7 @@ pub extern "C" fn mesh_parse_type7(
     answers::tell(patches::parse_type7_patches(data, coord, comp, flag, decode, n, out))
 }
 
-// Meshes from bytes, as ISO 32000-1 says.
+// Meshes from bytes, as ISO 32000-1 says, but for what docs/DIFFERENCES.md lists.
 
 #[no_mangle]
 pub extern "C" fn mesh_published_type4(

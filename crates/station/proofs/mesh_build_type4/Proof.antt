@@ -1,6 +1,6 @@
 -- `station::mesh_build_type4` meets its contract: it tells what `build_type4_from_array` answers. Assumes nothing.
 use borrow.Author.Needs.{needs}
-use Rattle.station.proofs.Telling.{told-done}
+use Rattle.answers.proofs.Outcomes.{tells-same}
 use Rattle.station.proofs.mesh_build_type4.Statement.{statement}
 use Rattle.station.proofs.mesh_build_type4.Tie as tie
 
@@ -14,7 +14,7 @@ same-length : tie.Need-same-length
 same-length c = search needs
 
 returns : tie.Need-returns
-returns c = told-done (c .tell .ensures) (c .before .before .before .build-type4-from-array .ensures)
+returns c = tells-same (c .tell .ensures) (c .before .before .before .build-type4-from-array .ensures)
 
 pub mesh-build-type4-spec : {M : Type 1} → statement M
 mesh-build-type4-spec = tie.close (tie.spec build-type4-from-array-requires tell-requires same-length returns)

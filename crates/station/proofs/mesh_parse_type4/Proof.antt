@@ -1,6 +1,6 @@
 -- `station::mesh_parse_type4` meets its contract: it tells what `parse_type4_mesh` answers. Assumes nothing.
 use borrow.Author.Needs.{needs}
-use Rattle.station.proofs.Telling.{told-done}
+use Rattle.answers.proofs.Outcomes.{tells-same}
 use Rattle.station.proofs.mesh_parse_type4.Statement.{statement}
 use Rattle.station.proofs.mesh_parse_type4.Tie as tie
 
@@ -14,7 +14,7 @@ same-length : tie.Need-same-length
 same-length c = search needs
 
 returns : tie.Need-returns
-returns c = told-done (c .tell .ensures) (c .before .before .before .parse-type4-mesh .ensures)
+returns c = tells-same (c .tell .ensures) (c .before .before .before .parse-type4-mesh .ensures)
 
 pub mesh-parse-type4-spec : {M : Type 1} → statement M
 mesh-parse-type4-spec = tie.close (tie.spec parse-type4-mesh-requires tell-requires same-length returns)

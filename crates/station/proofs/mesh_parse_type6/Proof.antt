@@ -1,6 +1,6 @@
 -- `station::mesh_parse_type6` meets its contract: it tells what `parse_type6_patches` answers. Assumes nothing.
 use borrow.Author.Needs.{needs}
-use Rattle.station.proofs.Telling.{told-done}
+use Rattle.answers.proofs.Outcomes.{tells-same}
 use Rattle.station.proofs.mesh_parse_type6.Statement.{statement}
 use Rattle.station.proofs.mesh_parse_type6.Tie as tie
 
@@ -14,7 +14,7 @@ same-length : tie.Need-same-length
 same-length c = search needs
 
 returns : tie.Need-returns
-returns c = told-done (c .tell .ensures) (c .before .before .before .parse-type6-patches .ensures)
+returns c = tells-same (c .tell .ensures) (c .before .before .before .parse-type6-patches .ensures)
 
 pub mesh-parse-type6-spec : {M : Type 1} → statement M
 mesh-parse-type6-spec = tie.close (tie.spec parse-type6-patches-requires tell-requires same-length returns)

@@ -1,6 +1,6 @@
 -- `station::mesh_raw_read_type5` meets its contract: it tells what `raw_read_type5` answers. Assumes nothing.
 use borrow.Author.Needs.{needs}
-use Rattle.station.proofs.Telling.{told-done}
+use Rattle.answers.proofs.Outcomes.{tells-same}
 use Rattle.station.proofs.mesh_raw_read_type5.Statement.{statement}
 use Rattle.station.proofs.mesh_raw_read_type5.Tie as tie
 
@@ -14,7 +14,7 @@ same-length : tie.Need-same-length
 same-length c = search needs
 
 returns : tie.Need-returns
-returns c = told-done (c .tell .ensures) (c .before .before .before .raw-read-type5 .ensures)
+returns c = tells-same (c .tell .ensures) (c .before .before .before .raw-read-type5 .ensures)
 
 pub mesh-raw-read-type5-spec : {M : Type 1} → statement M
 mesh-raw-read-type5-spec = tie.close (tie.spec raw-read-type5-requires tell-requires same-length returns)

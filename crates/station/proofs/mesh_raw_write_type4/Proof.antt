@@ -1,6 +1,6 @@
 -- `station::mesh_raw_write_type4` meets its contract: it tells what `raw_write_type4` answers. Assumes nothing.
 use borrow.Author.Needs.{needs}
-use Rattle.station.proofs.Telling.{told-done}
+use Rattle.answers.proofs.Outcomes.{tells-same}
 use Rattle.station.proofs.mesh_raw_write_type4.Statement.{statement}
 use Rattle.station.proofs.mesh_raw_write_type4.Tie as tie
 
@@ -14,7 +14,7 @@ same-length : tie.Need-same-length
 same-length c = search needs
 
 returns : tie.Need-returns
-returns c = told-done (c .tell .ensures) (c .before .before .before .raw-write-type4 .ensures)
+returns c = tells-same (c .tell .ensures) (c .before .before .before .raw-write-type4 .ensures)
 
 pub mesh-raw-write-type4-spec : {M : Type 1} → statement M
 mesh-raw-write-type4-spec = tie.close (tie.spec raw-write-type4-requires tell-requires same-length returns)
