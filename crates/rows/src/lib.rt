@@ -152,7 +152,16 @@ pub fn copy_colour(out: &mut [f64], from: usize, n: usize, at: usize) -> usize
     if !fitting::copy_fits(8, n, from, at, out.len()) {
         return at;
     }
-    let p = writing::copy_four(out, from, at);
-    let q = writing::copy_four(out, from + 4, p);
-    writing::copy_part(out, from + 8, n, q)
+    writing::copy_colour(out, from, n, at)
+}
+
+// The row of a vertex.
+pub fn copy_row(out: &mut [f64], from: usize, n: usize, at: usize) -> usize
+    ensures { λ r. ⌜ Placed (copyFits 10 n from at (length (now (out .entry)))) (now (out .entry)) (now (out .exit)) at (part nan (now (out .entry)) from (10 + n)) r ⌝ }
+{
+    if !fitting::copy_fits(10, n, from, at, out.len()) {
+        return at;
+    }
+    let p = writing::copy_part(out, from, 2, at);
+    writing::copy_colour(out, from + 2, n, p)
 }

@@ -113,7 +113,7 @@ pub fn copy_part(out: &mut [f64], from: usize, n: usize, at: usize) -> usize
 
 // Half of a colour's eight numbers. A machine that has just stored two numbers together hands them on together, and single ones alone; so they are
 // taken here as they are stored.
-pub fn copy_four(out: &mut [f64], from: usize, at: usize) -> usize
+fn copy_four(out: &mut [f64], from: usize, at: usize) -> usize
     requires { ⌜ (from + 4 ≤ at) × (at + 4 ≤ length (now out)) ⌝ }
     ensures { λ r. ⌜ r ≡ at + 4 ⌝ }
     ensures { λ r. ⌜ Written (now (out .entry)) (now (out .exit)) at (part nan (now (out .entry)) from 4) r ⌝ }
@@ -121,4 +121,15 @@ pub fn copy_four(out: &mut [f64], from: usize, at: usize) -> usize
     let p = copy_part(out, from, 2, at);
     let q = copy_part(out, from + 2, 1, p);
     copy_part(out, from + 3, 1, q)
+}
+
+// A colour's eight numbers and its n components.
+pub fn copy_colour(out: &mut [f64], from: usize, n: usize, at: usize) -> usize
+    requires { ⌜ (from + (8 + n) ≤ at) × (at + (8 + n) ≤ length (now out)) ⌝ }
+    ensures { λ r. ⌜ r ≡ at + (8 + n) ⌝ }
+    ensures { λ r. ⌜ Written (now (out .entry)) (now (out .exit)) at (part nan (now (out .entry)) from (8 + n)) r ⌝ }
+{
+    let p = copy_four(out, from, at);
+    let q = copy_four(out, from + 4, p);
+    copy_part(out, from + 8, n, q)
 }

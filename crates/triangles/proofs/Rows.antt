@@ -14,14 +14,14 @@ use Rattle.lists.specs.Writing.{Written, Placed}
 use Rattle.lists.proofs.Pieces.{length-part}
 use Rattle.lists.proofs.Parts.{written-here, written-over, written-beside}
 use Rattle.lists.proofs.Placing.{placed-sized}
-use Rattle.lists.proofs.Writing.{written-length, written-then, part-before, copied-then}
+use Rattle.lists.proofs.Writing.{written-length, written-then, part-before}
 use Rattle.decode.specs.Decode.{Ranges}
 use Rattle.colour.specs.Inner.Places.{pointAt, componentsAt}
 use Rattle.colour.proofs.Lengths.{length-colour, length-componentsAt, length-vertexAt}
 use Rattle.rows.specs.declared.Vertex.{Vertex}
 use Rattle.rows.specs.Inner.Layouts.{numbersOf, flagAt}
-use Rattle.rows.specs.Inner.Placing.{runFits, copyFits, NumbersThere, one, tenNumbers, VertexPlaced}
-use Rattle.rows.proofs.Callers.{vertex-read, flag-there, copy-written}
+use Rattle.rows.specs.Inner.Placing.{runFits, NumbersThere, one, tenNumbers, VertexPlaced}
+use Rattle.rows.proofs.Callers.{vertex-read, flag-there}
 use Rattle.rows.proofs.Vertices.{vertex-row}
 use Rattle.triangles.specs.declared.vertices.Vertices.{Vertices}
 use Rattle.triangles.specs.Inner.Vertices.{VerticesThere, Flagged, flagOfVertex, rowOfVertex, rowBeside, sharedRows, rowIndex}
@@ -115,16 +115,6 @@ row-after side size at = go (ltb side at)
     go false = omega arith
 
 -- ---- a row that is copied
-
-pub row-copied : (n from : ℕ) {l o o′ : List Float} {at p q : ℕ} → Placed (copyFits 2 0 from at (length l)) l o at (part nan l from 2) p
-    → Placed (copyFits 8 n (from + 2) p (length o)) o o′ p (part nan o (from + 2) (8 + n)) q → n ≤ 32 → from + (n + 10) ≤ at → at + (n + 10) ≤ length l
-    → (q ≡ at + (n + 10)) × Written l o′ at (part nan l from (n + 10)) q
-row-copied n from {l} {o} {o′} {at} {p} {q} d d′ few h room =
-    let w = copy-written 2 0 from d (omega arith) (omega arith) (omega arith) in
-    let long = written-length (w .1) in
-    let w′ = copy-written 8 n (from + 2) d′ few (omega (arith, w .0)) (omega (arith, w .0)) in
-    let e : 2 + (8 + n) ≡ n + 10 = omega arith in
-    (omega (arith, w .0, w′ .0), rw e at (copied-then nan from 2 (8 + n) (w .1) (w′ .1) (omega arith)))
 
 -- ---- a vertex that is written with the rows that come with it
 

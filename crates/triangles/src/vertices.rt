@@ -47,8 +47,7 @@ pub fn copy_row(n: usize, from: usize, out: &mut [f64], at: usize) -> usize
     ensures { λ r. ⌜ r ≡ at + (n + 10) ⌝ }
     ensures { λ r. ⌜ Written (now (out .entry)) (now (out .exit)) at (part nan (now (out .entry)) from (n + 10)) r ⌝ }
 {
-    let p = rows::copy_point(out, from, at);
-    rows::copy_colour(out, from + 2, n, p)
+    rows::copy_row(out, from, n, at)
 }
 
 // Writes the rows of a triangle that come with a vertex: where it is joined to the triangle before by a side, whose first row stands at index side and
