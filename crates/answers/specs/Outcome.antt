@@ -11,6 +11,7 @@ use mathlib.Core.List.{List, _++_}
 use lib.ListN.{length, drop}
 use lib.Dec.{ltb}
 
+-- the refusal table
 abbrev pub numberOf : Refusal → ℕ
 numberOf Layout = 1
 numberOf Components = 2

@@ -40,6 +40,6 @@ Ranges = ℕ → Range
 abbrev pub ranges : List Float → ℕ → ℕ → Ranges
 ranges entries coord comp kind = rangeOf entries kind (cond (ltb kind 2) coord comp)
 
--- Rust's `as u32`: fraction cut off, NaN and below 0 to 0, too large to the largest
+-- Document 01, "Records, number list": Rust's `as u32`: fraction cut off, NaN and below 0 to 0, too large to the largest
 abbrev pub flagOf : Float → ℕ
 flagOf x = toUnsigned 32 x

@@ -1,4 +1,4 @@
--- The loops of 000 over the records of a mesh, read by read. For theorems to compare the raw reading with.
+-- The loops of 000, read by read, for theorems to compare the raw reading with.
 use mathlib.Core.Bool.{Bool, true, cond, _&&_}
 use mathlib.Core.List.{List, [], _∷_, _++_}
 use mathlib.Core.Option.{Option, none, some, Option·map}
@@ -7,6 +7,8 @@ use Rattle.bits.specs.declared.BitRead.{BitRead}
 use Rattle.bits.specs.declared.BitRead.the-variants.{Number, End}
 use Rattle.bits.specs.Reading.{readAt, exhaustedAt}
 use Rattle.records.specs.Format.{Format}
+
+-- ---- parse_type6_patches and parse_type7_patches: after a cut patch they go on reading flags from the bits left over
 
 -- the reads of a patch's points and colours: all their numbers and the place after them, or the place of the read that failed
 pub data Reads : Type 0 where
@@ -40,6 +42,8 @@ flagged F s again started (Number flag q) = patchRound s again started flag (q .
 unfoldable pub loop : Format → List ℕ → ℕ → Bool → ℕ → Option (List ℕ)
 loop F s zero started p = none
 loop F s (suc k) started p = cond (exhaustedAt s p) (some []) (flagged F s (loop F s k) started (readAt s p (F .first)))
+
+-- ---- parse_type4_mesh and parse_type5_mesh
 
 -- a vertex whose reads are all ok is kept, and the loop goes on after it; else the loop breaks
 unfoldable pub keptVertex : (ℕ → List ℕ) → Reads → List ℕ
