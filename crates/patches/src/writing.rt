@@ -24,7 +24,6 @@ use crate::sides::side_of;
 use answers::Answer;
 use answers::Refusal;
 use rows::Place;
-use rows::Run;
 
 // ---- the side of the patch before
 
@@ -83,11 +82,10 @@ fn write_first(
     ensures { λ r. ⌜ Written (now (out .entry)) (now (out .exit)) at (pointsFrom records (now («data» .entry)) (now (values .entry)) (heldRanges (now (ranges .entry))) (4 + records .own) (from .0) ++ coloursFrom records (now («data» .entry)) (now (values .entry)) (heldRanges (now (ranges .entry))) 4 (from .0 + (4 + records .own) * (2 * records .layout .coord))) r ⌝ }
 {
     let layout = records.layout;
-    let run = Run {
-        points: 4 + records.own,
-        colours: 4,
-    };
-    rows::place_run(data, values, layout, ranges, run, from, out, at)
+    let count = 4 + records.own;
+    let rest = Place(from.0 + count * (2 * layout.coord));
+    let p = rows::place_points(data, values, layout, ranges, count, from, out, at);
+    rows::place_colours(data, values, layout, ranges, 4, rest, out, p)
 }
 
 // A patch joined to the one that ends at at.
@@ -111,18 +109,10 @@ fn write_next(
     let points = (4 + own) * 2;
     let start = at - (points + 4 * (8 + n));
     let rest = Place(from.0 + own * (2 * layout.coord));
-    let own_points = Run {
-        points: own,
-        colours: 0,
-    };
-    let own_colours = Run {
-        points: 0,
-        colours: 2,
-    };
     let p = copy_side_points(out, start, side, at);
-    let q = rows::place_run(data, values, layout, ranges, own_points, from, out, p);
+    let q = rows::place_points(data, values, layout, ranges, own, from, out, p);
     let r = copy_side_colours(out, start + points, n, side, q);
-    rows::place_run(data, values, layout, ranges, own_colours, rest, out, r)
+    rows::place_colours(data, values, layout, ranges, 2, rest, out, r)
 }
 
 // The patch of the record at a place.

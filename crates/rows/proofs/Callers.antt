@@ -2,9 +2,9 @@
 use Prim.Native.Nat.{ℕ, _+_, _*_, _≤_}
 use mathlib.Core.Path.{_≡_, refl}
 use mathlib.Core.Bool.{Bool, true, false}
-use mathlib.Core.List.{List, _++_}
+use mathlib.Core.List.{List}
 use native.Mathlib.Omega.{arith}
-use lib.ListN.{length, length-append}
+use lib.ListN.{length}
 use lib.Ieee.{Float, nan}
 use Rattle.lists.specs.Lists.{part}
 use Rattle.lists.specs.Writing.{Written, Placed}
@@ -16,22 +16,29 @@ use Rattle.decode.specs.Decode.{Ranges}
 use Rattle.colour.specs.Inner.Places.{pointAt, componentsAt, pointsAt, coloursAt}
 use Rattle.colour.proofs.Lengths.{length-componentsAt, length-pointsAt, length-coloursAt}
 use Rattle.rows.specs.declared.Layout.{Layout}
-use Rattle.rows.specs.declared.Run.{Run}
 use Rattle.rows.specs.declared.Vertex.{Vertex}
 use Rattle.rows.specs.Inner.Layouts.{numbersOf, flagIn, flagAt}
-use Rattle.rows.specs.Inner.Placing.{runPlaces, runNumbers, runFits, copyFits, NumbersThere, one, vertexOf, VertexPlaced}
+use Rattle.rows.specs.Inner.Placing.{runPlaces, runFits, copyFits, NumbersThere, one, pointsAlone, coloursAlone, vertexOf, VertexPlaced}
 use Rattle.rows.proofs.Fits.{run-fits, copy-fits}
 use Rattle.rows.proofs.Standings.{standing-less}
 
 module _ (L : Layout) (s : List ℕ) (vs : List Float) where
   module _ (R : Ranges) {entry exit : List Float} {at : ℕ} where
-    pub run-written : {next : ℕ} (run : Run) (p : ℕ)
-        → Placed (runFits L s vs run p at (length entry)) entry exit at (pointsAt (numbersOf L s vs R) (L .coord) (run .points) p ++ coloursAt (numbersOf L s vs R) (L .comp) (L .n) (run .colours) (p + run .points * (2 * L .coord))) next
-        → NumbersThere L s vs p (runPlaces L run) → run .points ≤ 16 → run .colours ≤ 4 → at + runNumbers L run ≤ length entry
-        → (next ≡ at + runNumbers L run) × Written entry exit at (pointsAt (numbersOf L s vs R) (L .coord) (run .points) p ++ coloursAt (numbersOf L s vs R) (L .comp) (L .n) (run .colours) (p + run .points * (2 * L .coord))) next
-    run-written run p d w k c h =
-        placed-sized (runNumbers L run) d (run-fits L s vs run p at (length entry) w k c h)
-        (simp (length-append, length-pointsAt, length-coloursAt)) h
+    pub points-written : {next : ℕ} (k p : ℕ) → Placed (runFits L s vs (pointsAlone k) p at (length entry)) entry exit at (pointsAt (numbersOf L s vs R) (L .coord) k p) next
+        → NumbersThere L s vs p (k * (2 * L .coord)) → k ≤ 16 → at + 2 * k ≤ length entry
+        → (next ≡ at + 2 * k) × Written entry exit at (pointsAt (numbersOf L s vs R) (L .coord) k p) next
+    points-written k p d w few h =
+        let st : NumbersThere L s vs p (runPlaces L (pointsAlone k)) = standing-less L s vs p _ _ w (omega arith) in
+        placed-sized (2 * k) d (run-fits L s vs (pointsAlone k) p at (length entry) st few (omega arith) (omega arith))
+        (length-pointsAt _ _ _ _) h
+
+    pub colours-written : {next : ℕ} (k p : ℕ) → Placed (runFits L s vs (coloursAlone k) p at (length entry)) entry exit at (coloursAt (numbersOf L s vs R) (L .comp) (L .n) k p) next
+        → NumbersThere L s vs p (k * (L .n * L .comp)) → k ≤ 4 → at + k * (8 + L .n) ≤ length entry
+        → (next ≡ at + k * (8 + L .n)) × Written entry exit at (coloursAt (numbersOf L s vs R) (L .comp) (L .n) k p) next
+    colours-written k p d w few h =
+        let st : NumbersThere L s vs p (runPlaces L (coloursAlone k)) = standing-less L s vs p _ _ w (omega arith) in
+        placed-sized (k * (8 + L .n)) d (run-fits L s vs (coloursAlone k) p at (length entry) st (omega arith) few (omega arith))
+        (length-coloursAt _ _ _ _ _) h
 
     pub vertex-read : (p : ℕ) {v : Vertex}
         → VertexPlaced (runFits L s vs one p at (length entry)) (pointAt (numbersOf L s vs R) (L .coord) p) (componentsAt (numbersOf L s vs R) (L .comp) (L .n) (p + 2 * L .coord)) entry exit at v

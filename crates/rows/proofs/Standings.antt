@@ -29,7 +29,7 @@ module _ (L : Layout) (s : List ℕ) (vs : List Float) (p : ℕ) where
             (f .0, f .1, f .2, f .3, f .4, omega arith);
       }
 
-  pub standing-after : (a b : ℕ) → NumbersThere L s vs p (a + b) → NumbersThere L s vs (p + a) b
+  standing-after : (a b : ℕ) → NumbersThere L s vs p (a + b) → NumbersThere L s vs (p + a) b
   standing-after a b w =
       record {
         n-few = w .n-few;

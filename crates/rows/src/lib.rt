@@ -2,7 +2,6 @@
 // Each public function tests first that all it needs is there; else it changes nothing.
 ghost use mathlib.Core.Path.{_≡_};
 ghost use Prim.Native.Nat.{_+_, _*_};
-ghost use mathlib.Core.List.{_++_};
 ghost use lib.ListN.{length};
 ghost use lib.Dec.{leb};
 ghost use lib.Ieee.{nan};
@@ -10,7 +9,7 @@ ghost use Rattle.lists.specs.Lists.{part};
 ghost use Rattle.lists.specs.Writing.{Placed};
 ghost use Rattle.colour.specs.Inner.Places.{pointAt, componentsAt, pointsAt, coloursAt};
 ghost use Rattle.rows.specs.Inner.Layouts.{numbersOf, flagAt, heldRanges, rangeList};
-ghost use Rattle.rows.specs.Inner.Placing.{runFits, copyFits, one, tenNumbers, VertexPlaced};
+ghost use Rattle.rows.specs.Inner.Placing.{runFits, copyFits, one, pointsAlone, coloursAlone, tenNumbers, VertexPlaced};
 use bits::BitPos;
 use bits::BitRead;
 use colour::DeviceColor;
@@ -33,7 +32,7 @@ pub struct Layout {
 // Where a number begins: a bit, or an index of a list.
 pub struct Place(pub usize);
 
-// So many points, and after them so many colours.
+// So many points, and after them so many colours: what a record has, or a part of it.
 pub struct Run {
     pub points: usize,
     pub colours: usize,
@@ -112,25 +111,50 @@ pub fn write_vertex(vertex: Vertex, out: &mut [f64], at: usize) -> usize
     writing::write_eight(colour, out, p)
 }
 
-// The points and the rows of the colours that begin at a place.
-pub fn place_run(
+// k points that begin at a place.
+pub fn place_points(
     data: &[u8],
     values: &[f64],
     layout: Layout,
     ranges: &[f64; 68],
-    run: Run,
+    k: usize,
     place: Place,
     out: &mut [f64],
     at: usize,
 ) -> usize
-    ensures { λ r. ⌜ Placed (runFits layout (now («data» .entry)) (now (values .entry)) run (place .0) at (length (now (out .entry)))) (now (out .entry)) (now (out .exit)) at (pointsAt (numbersOf layout (now («data» .entry)) (now (values .entry)) (heldRanges (now (ranges .entry)))) (layout .coord) (run .points) (place .0) ++ coloursAt (numbersOf layout (now («data» .entry)) (now (values .entry)) (heldRanges (now (ranges .entry)))) (layout .comp) (layout .n) (run .colours) (place .0 + run .points * (2 * layout .coord))) r ⌝ }
+    ensures { λ r. ⌜ Placed (runFits layout (now («data» .entry)) (now (values .entry)) (pointsAlone k) (place .0) at (length (now (out .entry)))) (now (out .entry)) (now (out .exit)) at (pointsAt (numbersOf layout (now («data» .entry)) (now (values .entry)) (heldRanges (now (ranges .entry)))) (layout .coord) k (place .0)) r ⌝ }
 {
+    let run = Run {
+        points: k,
+        colours: 0,
+    };
     if !fitting::run_fits(data, values, layout, run, place, at, out.len()) {
         return at;
     }
-    let rest = Place(place.0 + run.points * (2 * layout.coord));
-    let p = numbers::write_points(data, values, layout, ranges, run.points, place, out, at);
-    numbers::write_colours(data, values, layout, ranges, run.colours, rest, out, p)
+    numbers::write_points(data, values, layout, ranges, k, place, out, at)
+}
+
+// The rows of k colours that begin at a place.
+pub fn place_colours(
+    data: &[u8],
+    values: &[f64],
+    layout: Layout,
+    ranges: &[f64; 68],
+    k: usize,
+    place: Place,
+    out: &mut [f64],
+    at: usize,
+) -> usize
+    ensures { λ r. ⌜ Placed (runFits layout (now («data» .entry)) (now (values .entry)) (coloursAlone k) (place .0) at (length (now (out .entry)))) (now (out .entry)) (now (out .exit)) at (coloursAt (numbersOf layout (now («data» .entry)) (now (values .entry)) (heldRanges (now (ranges .entry)))) (layout .comp) (layout .n) k (place .0)) r ⌝ }
+{
+    let run = Run {
+        points: 0,
+        colours: k,
+    };
+    if !fitting::run_fits(data, values, layout, run, place, at, out.len()) {
+        return at;
+    }
+    numbers::write_colours(data, values, layout, ranges, k, place, out, at)
 }
 
 // ---- what stands in out already, before index at

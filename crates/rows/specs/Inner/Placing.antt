@@ -36,6 +36,13 @@ runPlaces L run = run .points * (2 * L .coord) + run .colours * (L .n * L .comp)
 abbrev pub runNumbers : Layout → Run → ℕ
 runNumbers L run = 2 * run .points + run .colours * (8 + L .n)
 
+-- points alone, colours alone
+abbrev pub pointsAlone : ℕ → Run
+pointsAlone k = record { points = k; colours = 0 }
+
+abbrev pub coloursAlone : ℕ → Run
+coloursAlone k = record { points = 0; colours = k }
+
 -- the points and colours are there whole, no more than a patch has, and an output of room elements has places for their rows from index at on
 unfoldable pub runFits : Layout → List ℕ → List Float → Run → ℕ → ℕ → ℕ → Bool
 runFits L s vs run p at room =

@@ -28,14 +28,14 @@ add-start-2 c = search needs
 sub-start : tie.Need-sub-start
 sub-start c = search needs
 
+mul-t18 : tie.Need-mul-t18
+mul-t18 c = search needs
+
 mul-t20 : tie.Need-mul-t20
 mul-t20 c = search needs
 
-mul-t22 : tie.Need-mul-t22
-mul-t22 c = search needs
-
-add-t21 : tie.Need-add-t21
-add-t21 c = search needs
+add-t19 : tie.Need-add-t19
+add-t19 c = search needs
 
 copy-side-points-requires : tie.Need-copy-side-points-requires
 copy-side-points-requires c κs =
@@ -44,8 +44,8 @@ copy-side-points-requires c κs =
     let h = c7 .pre in
     (h .1 .0 .0, below-more (4 + a .records .own) 16 (a .side .points) (omega arith) (h .1 .1), omega arith, omega arith)
 
-place-run-requires : tie.Need-place-run-requires
-place-run-requires c κs = search needs
+place-points-requires : tie.Need-place-points-requires
+place-points-requires c κs = search needs
 
 add-copy-side-colours : tie.Need-add-copy-side-colours
 add-copy-side-colours c = search needs
@@ -56,11 +56,11 @@ copy-side-colours-requires c κs =
     let c15 = c3 .before .before .before .before .before .before .before .before .before .before .before .before in
     let a = c15 .args in
     let h = c15 .pre in
-    let w = points-placed (h .0) (a .from .0) (heldRanges (a .ranges .now)) (a .records .own) (c3 .place-run .ensures) (omega (arith, h .2)) (omega arith) (omega arith) in
+    let w = points-placed (h .0) (a .from .0) (heldRanges (a .ranges .now)) (a .records .own) (c3 .place-points .ensures) (omega (arith, h .2)) (omega arith) (omega arith) in
     (h .1 .0 .1, h .1 .2, omega arith, omega (arith, w .0), omega (arith, w .0))
 
-place-run-requires-2 : tie.Need-place-run-requires-2
-place-run-requires-2 c κs = search needs
+place-colours-requires : tie.Need-place-colours-requires
+place-colours-requires c κs = search needs
 
 same-length : tie.Need-same-length
 same-length c = search needs
@@ -76,8 +76,8 @@ returns c =
     let a = c22 .args in
     let h = c22 .pre in
     let r = heldRanges (a .ranges .now) in
-    let ps = points-placed (h .0) (a .from .0) r (a .records .own) (c10 .place-run .ensures) (omega (arith, h .2)) (omega arith) (omega arith) in
-    let cs = colours-placed (h .0) (a .from .0 + a .records .own * (2 * a .records .layout .coord)) r 2 (c2 .place-run2 .ensures) (omega (arith, h .2)) (omega arith)
+    let ps = points-placed (h .0) (a .from .0) r (a .records .own) (c10 .place-points .ensures) (omega (arith, h .2)) (omega arith) (omega arith) in
+    let cs = colours-placed (h .0) (a .from .0 + a .records .own * (2 * a .records .layout .coord)) r 2 (c2 .place-colours .ensures) (omega (arith, h .2)) (omega arith)
     (omega (arith, ps .0)) in
     let w = written-then (c14 .copy-side-points .ensures .1) (ps .1) in
     let e = colours-stay (a .records .layout .n) (a .at - patchSize (a .records) + (4 + a .records .own) * 2) (a .side .colours) (h .1 .2) w (omega arith) in
@@ -93,13 +93,13 @@ write-next-spec =
     mul-start
     add-start-2
     sub-start
+    mul-t18
     mul-t20
-    mul-t22
-    add-t21
+    add-t19
     copy-side-points-requires
-    place-run-requires
+    place-points-requires
     add-copy-side-colours
     copy-side-colours-requires
-    place-run-requires-2
+    place-colours-requires
     same-length
     returns)
