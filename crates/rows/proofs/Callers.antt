@@ -1,28 +1,55 @@
 -- What a caller who knows that all is there gets of each public function, in plain facts. Assumes nothing.
-use Prim.Native.Nat.{ℕ, _+_, _*_, _≤_}
+use Prim.Native.Nat.{ℕ, _+_, _*_, _≤_, _<_}
 use mathlib.Core.Path.{_≡_, refl}
-use mathlib.Core.Bool.{Bool, true, false}
-use mathlib.Core.List.{List}
+use mathlib.Core.Bool.{Bool, true, false, cond}
+use mathlib.Core.List.{List, _++_}
 use native.Mathlib.Omega.{arith}
-use lib.ListN.{length}
+use lib.Dec.{leb}
+use lib.ListN.{length, length-append}
+use borrow.Author.Tests.{le-leb}
 use lib.Ieee.{Float, nan}
 use Rattle.lists.specs.Lists.{part}
 use Rattle.lists.specs.Writing.{Written, Placed}
 use Rattle.lists.proofs.Pieces.{length-part}
-use Rattle.lists.proofs.Placing.{placed-sized}
+use Rattle.lists.proofs.Placing.{placed-written, placed-sized}
 use Rattle.answers.specs.Limits.{mostBytes}
 use Rattle.bits.proofs.Answers.{answer-number}
 use Rattle.decode.specs.Decode.{Ranges}
-use Rattle.colour.specs.Inner.Places.{pointAt, componentsAt, pointsAt, coloursAt}
-use Rattle.colour.proofs.Lengths.{length-componentsAt, length-pointsAt, length-coloursAt}
+use Rattle.colour.specs.Inner.Places.{vertexAt, pointsAt, coloursAt}
+use Rattle.colour.proofs.Lengths.{length-vertexAt, length-pointsAt, length-coloursAt}
 use Rattle.rows.specs.declared.Layout.{Layout}
-use Rattle.rows.specs.declared.Vertex.{Vertex}
-use Rattle.rows.specs.Inner.Layouts.{numbersOf, flagIn, flagAt}
-use Rattle.rows.specs.Inner.Placing.{runPlaces, runFits, copyFits, NumbersThere, one, pointsAlone, coloursAlone, vertexOf, VertexPlaced}
-use Rattle.rows.proofs.Fits.{run-fits, copy-fits}
+use Rattle.rows.specs.Inner.Layouts.{numbersOf, vertexIn, flagIn, flagAt}
+use Rattle.rows.specs.Inner.Placing.{runPlaces, runFits, copyFits, bitsFit, cornerFits, NumbersThere, pointsAlone, coloursAlone, sharedRows, rowIndex}
+use Rattle.rows.proofs.Sources.{numbers-listed, numbers-bits}
+use Rattle.rows.proofs.Fits.{run-fits, copy-fits, rows-fit, bits-fit}
 use Rattle.rows.proofs.Standings.{standing-less}
+use Rattle.rows.proofs.Corners.{shared-end, vertex-listed, vertex-in-bits}
 
 module _ (L : Layout) (s : List ℕ) (vs : List Float) where
+  -- a vertex that is there whole
+  vertex-in : (R : Ranges) (p : ℕ) {size : ℕ} → NumbersThere L s vs p size
+      → vertexIn L s vs R p ≡ vertexAt (numbersOf L s vs R) (L .coord) (L .comp) (L .n) p
+  vertex-in R p w = by-kind (L .listed) refl
+    where
+      by-kind : (b : Bool) → L .listed ≡ b → vertexIn L s vs R p ≡ vertexAt (numbersOf L s vs R) (L .coord) (L .comp) (L .n) p
+      by-kind true e =
+          let f = w .in-list e in
+          rw (vertex-listed L s vs R p e, numbers-listed L s vs R e, f .0, f .1)
+      by-kind false e = rw (vertex-in-bits L s vs R p e, numbers-bits L s vs R e)
+
+  numbers-there : (p : ℕ) → NumbersThere L s vs p (2 * L .coord + L .n * L .comp)
+      → cond (L .listed) (leb (p + (2 + L .n)) (length vs)) (bitsFit L s p) ≡ true
+  numbers-there p w = by-kind (L .listed) refl
+    where
+      by-kind : (b : Bool) → L .listed ≡ b → cond b (leb (p + (2 + L .n)) (length vs)) (bitsFit L s p) ≡ true
+      by-kind true e =
+          let f = w .in-list e in
+          let g : p + (2 * 1 + L .n * 1) ≤ length vs = rw (f .0, f .1) at (f .2) in
+          le-leb (p + (2 + L .n)) (length vs) (omega (arith, g))
+      by-kind false e =
+          let f = w .in-bits e in
+          bits-fit L s p ((f .0, f .1), ((f .2, f .3), (f .4, f .5)))
+
   module _ (R : Ranges) {entry exit : List Float} {at : ℕ} where
     pub points-written : {next : ℕ} (k p : ℕ) → Placed (runFits L s vs (pointsAlone k) p at (length entry)) entry exit at (pointsAt (numbersOf L s vs R) (L .coord) k p) next
         → NumbersThere L s vs p (k * (2 * L .coord)) → k ≤ 16 → at + 2 * k ≤ length entry
@@ -40,15 +67,16 @@ module _ (L : Layout) (s : List ℕ) (vs : List Float) where
         placed-sized (k * (8 + L .n)) d (run-fits L s vs (coloursAlone k) p at (length entry) st (omega arith) few (omega arith))
         (length-coloursAt _ _ _ _ _) h
 
-    pub vertex-read : (p : ℕ) {v : Vertex}
-        → VertexPlaced (runFits L s vs one p at (length entry)) (pointAt (numbersOf L s vs R) (L .coord) p) (componentsAt (numbersOf L s vs R) (L .comp) (L .n) (p + 2 * L .coord)) entry exit at v
-        → NumbersThere L s vs p (2 * L .coord + L .n * L .comp) → at + (10 + L .n) ≤ length entry
-        → (v ≡ vertexOf (pointAt (numbersOf L s vs R) (L .coord) p) (componentsAt (numbersOf L s vs R) (L .comp) (L .n) (p + 2 * L .coord))) × Written entry exit (at + 10) (componentsAt (numbersOf L s vs R) (L .comp) (L .n) (p + 2 * L .coord)) (at + (10 + L .n))
-    vertex-read p d w h =
-        let n = length-componentsAt (numbersOf L s vs R) (L .comp) (L .n) (p + 2 * L .coord) in
-        let st : NumbersThere L s vs p (runPlaces L one) = standing-less L s vs p _ _ w (omega arith) in
-        let e = run-fits L s vs one p at (length entry) st (omega arith) (omega arith) (omega arith) in
-        (rw e at (d .is), record { held = rw e at (d .held); room = omega arith; after = omega arith })
+    pub corner-placed : {next : ℕ} (p side : ℕ)
+        → Placed (cornerFits L s vs p side at (length entry)) entry exit at (sharedRows entry side (10 + L .n) at ++ vertexIn L s vs R p) next
+        → NumbersThere L s vs p (2 * L .coord + L .n * L .comp) → rowIndex side (10 + L .n) at + (10 + L .n) ≤ length entry → (side < at → side + (10 + L .n) ≤ at)
+        → Written entry exit at (sharedRows entry side (10 + L .n) at ++ vertexAt (numbersOf L s vs R) (L .coord) (L .comp) (L .n) p) next
+    corner-placed p side d w h b =
+        let fit = rows-fit (L .n) side at (length entry) (w .n-few) h b in
+        let is = vertex-in R p w in
+        let long = length-append (sharedRows entry side (10 + L .n) at) (vertexAt (numbersOf L s vs R) (L .coord) (L .comp) (L .n) p) in
+        placed-written (rw is at d) (rw (fit, numbers-there p w))
+        (omega (arith, shared-end entry side (10 + L .n) at, length-vertexAt (numbersOf L s vs R) (L .coord) (L .comp) (L .n) p))
 
   module _ (p : ℕ) where
     flag-listed : L .listed ≡ true → flagAt L s vs p ≡ flagIn L s vs p

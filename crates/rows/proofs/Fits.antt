@@ -1,19 +1,20 @@
 -- What a test that all is there says, and the plain facts that make it hold. Assumes nothing.
-use Prim.Native.Nat.{ℕ, _+_, _-_, _*_, _≤_}
-use mathlib.Core.Path.{_≡_, refl, sym, _∙_}
+use Prim.Native.Nat.{ℕ, _+_, _-_, _*_, _≤_, _<_}
+use mathlib.Core.Path.{_≡_, refl, sym, _∙_, subst}
 use mathlib.Core.Logic.{_↔_}
-use mathlib.Core.Bool.{Bool, true, false, not, and-eq-true-iff}
+use mathlib.Core.Bool.{Bool, true, false, not, _&&_, cond, and-eq-true-iff}
 use mathlib.Core.List.{List}
 use native.Mathlib.Nat.{lt-of-not-le, mul-le-mul}
 use native.Mathlib.Decide.{decLe}
 use native.Mathlib.Omega.{arith}
 use lib.ListN.{length}
-use lib.Dec.{leb, eqb}
+use lib.Dec.{leb, ltb, eqb}
 use lib.Ieee.{Float}
-use borrow.Author.Tests.{not-false, leb-true, le-leb, lt-leb, eqb-true, eq-eqb}
+use borrow.Author.Tests.{not-false, leb-true, le-leb, lt-leb, eqb-true, eq-eqb, ltb-true, ltb-false}
+use Rattle.bits.specs.Reading.{readable}
 use Rattle.rows.specs.declared.Layout.{Layout}
 use Rattle.rows.specs.declared.Run.{Run}
-use Rattle.rows.specs.Inner.Placing.{fair, there, runPlaces, runNumbers, runFits, copyFits, NumbersThere}
+use Rattle.rows.specs.Inner.Placing.{fair, there, runPlaces, runNumbers, runFits, copyFits, rowIndex, rowsFit, bitsFit, cornerFits, NumbersThere}
 
 -- the test without a sum
 pub leb-sub : (from size len : ℕ) → from ≤ len → leb size (len - from) ≡ leb (from + size) len
@@ -115,3 +116,76 @@ module _ (lead n from at room : ℕ) where
   pub copy-there : {r : Bool} → r ≡ copyFits lead n from at room → r ≡ true → n ≤ 32 × (from + (lead + n) ≤ at × at + (lead + n) ≤ room)
   unfolding copyFits
   copy-there e t = simp (and-eq-true-iff, leb-iff) at (sym e ∙ t)
+
+-- ---- a vertex with a side
+
+module _ (n side at room : ℕ) where
+  rows-split : {r : Bool} → r ≡ rowsFit n side at room → r ≡ true
+      → n ≤ 32 × (cond (ltb side at) (leb (side + (10 + n)) at && leb (at + 3 * (10 + n)) room) (leb (at + (10 + n)) room) ≡ true)
+  unfolding rowsFit
+  rows-split e t = simp (and-eq-true-iff, leb-iff) at (sym e ∙ t)
+
+  pub rows-there : {r : Bool} → r ≡ rowsFit n side at room → r ≡ true
+      → (n ≤ 32) × (rowIndex side (10 + n) at + (10 + n) ≤ room) × (side < at → side + (10 + n) ≤ at)
+  rows-there {r} e t = by-side (ltb side at) refl
+    where
+      by-side : (b : Bool) → ltb side at ≡ b → (n ≤ 32) × (rowIndex side (10 + n) at + (10 + n) ≤ room) × (side < at → side + (10 + n) ≤ at)
+      by-side true q =
+          let f = rows-split e t in
+          let g : side + (10 + n) ≤ at × at + 3 * (10 + n) ≤ room = simp (and-eq-true-iff, leb-iff) at (rw q at (f .1)) in
+          (f .0, rw q (omega (arith, g .1)), λ h. g .0)
+      by-side false q =
+          let f = rows-split e t in
+          let none : at ≤ side = ltb-false side at q in
+          (f .0, rw q (leb-true _ _ (rw q at (f .1))), λ h. omega (arith, none, h))
+
+  pub rows-fit : n ≤ 32 → rowIndex side (10 + n) at + (10 + n) ≤ room → (side < at → side + (10 + n) ≤ at) → rowsFit n side at room ≡ true
+  unfolding rowsFit
+  rows-fit few h b = by-side (ltb side at) refl
+    where
+      by-side : (t : Bool) → ltb side at ≡ t
+          → leb n 32 && cond (ltb side at) (leb (side + (10 + n)) at && leb (at + 3 * (10 + n)) room) (leb (at + (10 + n)) room) ≡ true
+      by-side true q =
+          let first = b (ltb-true _ _ q) in
+          let last : at + 2 * (10 + n) + (10 + n) ≤ room = rw q at h in
+          let all : at + 3 * (10 + n) ≤ room = omega arith in
+          rw (q, le-leb _ _ few, le-leb _ _ first, le-leb _ _ all)
+      by-side false q =
+          let all : at + (10 + n) ≤ room = rw q at h in
+          rw (q, le-leb _ _ few, le-leb _ _ all)
+
+-- by the answer r of a test
+pub width-small : (w : ℕ) {r : Bool} → r ≡ readable w → not r ≡ false → w ≤ 32
+width-small w {r} e t =
+    let f : 1 ≤ w × w ≤ 32 = simp (and-eq-true-iff, leb-iff) at (sym e ∙ not-false r t) in
+    f .1
+
+module _ (L : Layout) (s : List ℕ) (p : ℕ) where
+  pub bits-there : {r : Bool} → r ≡ bitsFit L s p → r ≡ true
+      → (1 ≤ L .coord × L .coord ≤ 32) × ((1 ≤ L .comp × L .comp ≤ 32) × (length s ≤ 16777216 × p + (2 * L .coord + L .n * L .comp) ≤ 8 * length s))
+  unfolding bitsFit
+  bits-there e t = simp (and-eq-true-iff, leb-iff) at (sym e ∙ t)
+
+  pub bits-fit : (1 ≤ L .coord × L .coord ≤ 32) × ((1 ≤ L .comp × L .comp ≤ 32) × (length s ≤ 16777216 × p + (2 * L .coord + L .n * L .comp) ≤ 8 * length s))
+      → bitsFit L s p ≡ true
+  unfolding bitsFit
+  bits-fit h = simp (and-eq-true-iff, leb-iff) h
+
+-- where the rows fit, what is left to test is that the numbers are there; r is the answer of a test
+module _ (L : Layout) (s : List ℕ) (vs : List Float) (p side at room : ℕ) where
+  pub rows-decide : {r : Bool} → r ≡ rowsFit (L .n) side at room → r ≡ false → r ≡ cornerFits L s vs p side at room
+  rows-decide e t = rw (← e, t)
+
+  pub list-decides : {r : Bool} → r ≡ rowsFit (L .n) side at room → r ≡ true → L .listed ≡ true → leb (p + (2 + L .n)) (length vs) ≡ cornerFits L s vs p side at room
+  list-decides e t l =
+      subst (λ (b : Bool). leb (p + (2 + L .n)) (length vs) ≡ rowsFit (L .n) side at room && cond b (leb (p + (2 + L .n)) (length vs)) (bitsFit L s p))
+      (sym l) (rw (← e, t))
+
+  pub bits-decide : {r : Bool} → r ≡ rowsFit (L .n) side at room → r ≡ true → L .listed ≡ false → bitsFit L s p ≡ cornerFits L s vs p side at room
+  bits-decide e t l =
+      subst (λ (b : Bool). bitsFit L s p ≡ rowsFit (L .n) side at room && cond b (leb (p + (2 + L .n)) (length vs)) (bitsFit L s p))
+      (sym l) (rw (← e, t))
+
+  pub all-decide : {r : Bool} → r ≡ rowsFit (L .n) side at room → r ≡ true → cond (L .listed) (leb (p + (2 + L .n)) (length vs)) (bitsFit L s p) ≡ true
+      → r ≡ cornerFits L s vs p side at room
+  all-decide e t h = rw (← e, t, h)

@@ -3,4 +3,5 @@ pub mod Held
 pub mod Sources
 pub mod Standings
 pub mod Vertices
+pub mod Corners
 pub mod Callers

@@ -9,10 +9,10 @@ use lib.ListN.{length}
 use lib.Ieee.{Float, nan}
 use Rattle.lists.specs.Lists.{part}
 use Rattle.decode.specs.Decode.{Ranges}
-use Rattle.colour.specs.Inner.Places.{listNumbers, pointAt, componentsAt, pointsAt}
+use Rattle.colour.specs.Inner.Places.{componentsAt, pointsAt}
 use Rattle.rows.specs.declared.Layout.{Layout}
 use Rattle.rows.specs.Inner.Layouts.{numbersOf}
-use Rattle.rows.specs.Inner.Placing.{runPlaces, one, NumbersThere}
+use Rattle.rows.specs.Inner.Placing.{NumbersThere}
 use Rattle.rows.proofs.Fits.{fair-small, standing-fits}
 use Rattle.rows.proofs.Sources.{numbers-listed, components-of-list, points-of-list}
 
@@ -72,23 +72,9 @@ module _ (L : Layout) (s : List ℕ) (vs : List Float) (p : ℕ) where
       let g : p + k * (2 * 1) ≤ length vs = rw (f .0) at (f .2) in
       omega arith
 
-  pub vertex-within : NumbersThere L s vs p (runPlaces L one) → L .listed ≡ true → p + (2 + L .n) ≤ length vs
-  vertex-within w e =
-      let f = w .in-list e in
-      let g : p + (1 * (2 * 1) + 1 * (L .n * 1)) ≤ length vs = rw (f .0, f .1) at (f .2) in
-      omega arith
-
 module _ (L : Layout) (s : List ℕ) (vs : List Float) (R : Ranges) (p size : ℕ) (w : NumbersThere L s vs p size) (e : L .listed ≡ true) where
   pub components-listed : (q : ℕ) → componentsAt (numbersOf L s vs R) (L .comp) (L .n) q ≡ part nan vs q (L .n)
   components-listed q = rw (numbers-listed L s vs R e, w .in-list e .1, components-of-list vs (L .n) q)
 
   pub points-listed : (k q : ℕ) → pointsAt (numbersOf L s vs R) (L .coord) k q ≡ part nan vs q (2 * k)
   points-listed k q = rw (numbers-listed L s vs R e, w .in-list e .0, points-of-list vs k q)
-
-  pub point-listed : (q : ℕ) → pointAt (numbersOf L s vs R) (L .coord) q ≡ pointAt (listNumbers vs) 1 q
-  point-listed q = rw (numbers-listed L s vs R e, w .in-list e .0)
-
-  -- the components after a point
-  pub after-point-listed : (q : ℕ)
-      → componentsAt (numbersOf L s vs R) (L .comp) (L .n) (q + 2 * L .coord) ≡ componentsAt (listNumbers vs) 1 (L .n) (q + 2)
-  after-point-listed q = rw (numbers-listed L s vs R e, w .in-list e .0, w .in-list e .1)

@@ -2,7 +2,7 @@
 ghost use mathlib.Core.Path.{_≡_};
 ghost use Prim.Native.Nat.{_+_, _≤_};
 ghost use lib.Dec.{leb};
-ghost use Rattle.rows.specs.Inner.Placing.{fair, there, runFits, copyFits};
+ghost use Rattle.rows.specs.Inner.Placing.{fair, there, runFits, copyFits, rowsFit, bitsFit};
 use crate::Layout;
 use crate::Place;
 use crate::Run;
@@ -67,4 +67,36 @@ pub fn copy_fits(lead: usize, n: usize, from: usize, at: usize, room: usize) -> 
     ensures { λ r. ⌜ r ≡ copyFits lead n from at room ⌝ }
 {
     n <= answers::MOST_COMPONENTS && (has_room(from, lead + n, at) && has_room(at, lead + n, room))
+}
+
+// Whether a vertex has few enough components, and the rows that come with it have room.
+pub fn rows_fit(n: usize, side: usize, at: usize, room: usize) -> bool
+    ensures { λ r. ⌜ r ≡ rowsFit n side at room ⌝ }
+{
+    if n > answers::MOST_COMPONENTS {
+        return false;
+    }
+    let size = 10 + n;
+    if side < at {
+        return has_room(side, size, at) && has_room(at, 3 * size, room);
+    }
+    has_room(at, size, room)
+}
+
+// Whether the bits of a vertex are there.
+pub fn bits_fit(data: &[u8], layout: Layout, p: usize) -> bool
+    requires { ⌜ layout .n ≤ 32 ⌝ }
+    ensures { λ r. ⌜ r ≡ bitsFit layout (now («data» .entry)) p ⌝ }
+{
+    if !width_is_readable(layout.coord) {
+        return false;
+    }
+    if !width_is_readable(layout.comp) {
+        return false;
+    }
+    let bytes = data.len();
+    if bytes > answers::MOST_BYTES {
+        return false;
+    }
+    has_room(p, 2 * layout.coord + layout.n * layout.comp, 8 * bytes)
 }

@@ -1,15 +1,15 @@
 // A record's numbers, from bits or from a list, decoded and written as rows into a lent output.
 // Each public function tests first that all it needs is there; else it changes nothing.
 ghost use mathlib.Core.Path.{_≡_};
-ghost use Prim.Native.Nat.{_+_, _*_};
+ghost use mathlib.Core.List.{_++_};
+ghost use Prim.Native.Nat.{_+_};
 ghost use lib.ListN.{length};
-ghost use lib.Dec.{leb};
 ghost use lib.Ieee.{nan};
 ghost use Rattle.lists.specs.Lists.{part};
 ghost use Rattle.lists.specs.Writing.{Placed};
-ghost use Rattle.colour.specs.Inner.Places.{pointAt, componentsAt, pointsAt, coloursAt};
-ghost use Rattle.rows.specs.Inner.Layouts.{numbersOf, flagAt, heldRanges, rangeList};
-ghost use Rattle.rows.specs.Inner.Placing.{runFits, copyFits, one, pointsAlone, coloursAlone, tenNumbers, VertexPlaced};
+ghost use Rattle.colour.specs.Inner.Places.{pointsAt, coloursAt};
+ghost use Rattle.rows.specs.Inner.Layouts.{numbersOf, vertexIn, flagAt, heldRanges, rangeList};
+ghost use Rattle.rows.specs.Inner.Placing.{runFits, copyFits, cornerFits, pointsAlone, coloursAlone, sharedRows};
 use bits::BitPos;
 use bits::BitRead;
 use colour::DeviceColor;
@@ -69,46 +69,38 @@ pub fn flag_at(data: &[u8], values: &[f64], layout: Layout, place: Place) -> u32
     flag
 }
 
-// Reads the vertex whose coordinates begin at a place. Its components go to their places beside the row that begins at index at.
-pub fn read_vertex(
+// The row of the vertex whose coordinates begin at a place. Before it come the two rows of the side by which it is joined, if there is one: the first
+// stands at index side, the second right before index at. Where there is none, `side` is `at`.
+pub fn place_corner(
     data: &[u8],
     values: &[f64],
     layout: Layout,
     ranges: &[f64; 68],
     place: Place,
+    side: usize,
     out: &mut [f64],
     at: usize,
-) -> Vertex
-    ensures { λ r. ⌜ VertexPlaced (runFits layout (now («data» .entry)) (now (values .entry)) one (place .0) at (length (now (out .entry)))) (pointAt (numbersOf layout (now («data» .entry)) (now (values .entry)) (heldRanges (now (ranges .entry)))) (layout .coord) (place .0)) (componentsAt (numbersOf layout (now («data» .entry)) (now (values .entry)) (heldRanges (now (ranges .entry)))) (layout .comp) (layout .n) (place .0 + 2 * layout .coord)) (now (out .entry)) (now (out .exit)) at r ⌝ }
+) -> usize
+    ensures { λ r. ⌜ Placed (cornerFits layout (now («data» .entry)) (now (values .entry)) (place .0) side at (length (now (out .entry)))) (now (out .entry)) (now (out .exit)) at (sharedRows (now (out .entry)) side (10 + layout .n) at ++ vertexIn layout (now («data» .entry)) (now (values .entry)) (heldRanges (now (ranges .entry))) (place .0)) r ⌝ }
 {
-    let run = Run {
-        points: 1,
-        colours: 1,
-    };
-    if !fitting::run_fits(data, values, layout, run, place, at, out.len()) {
-        return Vertex {
-            x: 0.0,
-            y: 0.0,
-            colour: colour::components_to_color(&values[0..0]),
-        };
-    }
-    let p = place.0;
-    if layout.listed {
-        return numbers::list_vertex(values, layout.n, p, out, at);
-    }
-    numbers::read_vertex(data, layout, ranges, BitPos(p), out, at)
-}
-
-// The ten numbers of a vertex before its components: x, y and those of its colour.
-pub fn write_vertex(vertex: Vertex, out: &mut [f64], at: usize) -> usize
-    ensures { λ r. ⌜ Placed (leb (at + 10) (length (now (out .entry)))) (now (out .entry)) (now (out .exit)) at (tenNumbers vertex) r ⌝ }
-{
-    if !fitting::has_room(at, 10, out.len()) {
+    let n = layout.n;
+    if !fitting::rows_fit(n, side, at, out.len()) {
         return at;
     }
-    let colour = vertex.colour;
-    let p = writing::write_two(vertex.x, vertex.y, out, at);
-    writing::write_eight(colour, out, p)
+    let p = place.0;
+    let row = writing::row_index(side, n, at);
+    let vertex = if layout.listed {
+        if !fitting::has_room(p, 2 + n, values.len()) {
+            return at;
+        }
+        numbers::list_vertex(values, n, p, out, row)
+    } else {
+        if !fitting::bits_fit(data, layout, p) {
+            return at;
+        }
+        numbers::read_vertex(data, layout, ranges, BitPos(p), out, row)
+    };
+    writing::write_corner(vertex, side, n, out, at)
 }
 
 // k points that begin at a place.
@@ -186,6 +178,5 @@ pub fn copy_row(out: &mut [f64], from: usize, n: usize, at: usize) -> usize
     if !fitting::copy_fits(10, n, from, at, out.len()) {
         return at;
     }
-    let p = writing::copy_part(out, from, 2, at);
-    writing::copy_colour(out, from + 2, n, p)
+    writing::copy_row(out, from, n, at)
 }

@@ -1,7 +1,6 @@
 // Numbers that are there, read from bits and decoded or taken from a list, and written to a lent output from an index. Each function that writes
 // answers the index after what it wrote.
 ghost use mathlib.Core.Path.{_≡_};
-ghost use mathlib.Core.List.{[], _∷_};
 ghost use Prim.Native.Nat.{_+_, _*_, _≤_};
 ghost use lib.ListN.{length};
 ghost use Rattle.lists.specs.Writing.{Written};

@@ -1,12 +1,14 @@
 // Numbers written to a lent output from an index, where there is room for them. Each function answers the index after them.
 ghost use mathlib.Core.Path.{_≡_};
-ghost use mathlib.Core.List.{[], _∷_};
-ghost use Prim.Native.Nat.{_+_, _≤_};
+ghost use mathlib.Core.List.{[], _∷_, _++_};
+ghost use Prim.Native.Nat.{_+_, _≤_, _<_};
 ghost use lib.ListN.{length};
 ghost use lib.Ieee.{nan};
 ghost use Rattle.lists.specs.Lists.{part};
 ghost use Rattle.lists.specs.Writing.{Written};
 ghost use Rattle.colour.specs.Colour.{colourNumbers, inkNumbers};
+ghost use Rattle.rows.specs.Inner.Placing.{tenNumbers, rowBeside, rowIndex, sharedRows};
+use crate::Vertex;
 use colour::DeviceColor;
 use colour::Inks;
 
@@ -132,4 +134,54 @@ pub fn copy_colour(out: &mut [f64], from: usize, n: usize, at: usize) -> usize
     let p = copy_four(out, from, at);
     let q = copy_four(out, from + 4, p);
     copy_part(out, from + 8, n, q)
+}
+
+// The row of a vertex: two numbers and a colour.
+pub fn copy_row(out: &mut [f64], from: usize, n: usize, at: usize) -> usize
+    requires { ⌜ (from + (10 + n) ≤ at) × (at + (10 + n) ≤ length (now out)) ⌝ }
+    ensures { λ r. ⌜ r ≡ at + (10 + n) ⌝ }
+    ensures { λ r. ⌜ Written (now (out .entry)) (now (out .exit)) at (part nan (now (out .entry)) from (10 + n)) r ⌝ }
+{
+    let p = copy_part(out, from, 2, at);
+    copy_colour(out, from + 2, n, p)
+}
+
+// ---- a vertex
+
+// The ten numbers before its components: x, y and those of its colour.
+fn write_vertex(vertex: Vertex, out: &mut [f64], at: usize) -> usize
+    requires { ⌜ at + 10 ≤ length (now out) ⌝ }
+    ensures { λ r. ⌜ r ≡ at + 10 ⌝ }
+    ensures { λ r. ⌜ Written (now (out .entry)) (now (out .exit)) at (tenNumbers vertex) r ⌝ }
+{
+    let colour = vertex.colour;
+    let p = write_two(vertex.x, vertex.y, out, at);
+    write_eight(colour, out, p)
+}
+
+// Where its row begins, with or without a side.
+pub fn row_index(side: usize, n: usize, at: usize) -> usize
+    requires { ⌜ (n ≤ 32) × (at ≤ 1152921504606846976) ⌝ }
+    ensures { λ r. ⌜ r ≡ rowIndex side (10 + n) at ⌝ }
+{
+    if side < at {
+        return at + 2 * (10 + n);
+    }
+    at
+}
+
+// Writes the rows of a triangle that come with a vertex: its own, whose components stand beside it already, and before it the two of the side.
+pub fn write_corner(vertex: Vertex, side: usize, n: usize, out: &mut [f64], at: usize) -> usize
+    requires { ⌜ (n ≤ 32) × (rowIndex side (10 + n) at + (10 + n) ≤ length (now out)) × (side < at → side + (10 + n) ≤ at) ⌝ }
+    ensures { λ r. ⌜ r ≡ rowIndex side (10 + n) at + (10 + n) ⌝ }
+    ensures { λ r. ⌜ Written (now (out .entry)) (now (out .exit)) at (sharedRows (now (out .entry)) side (10 + n) at ++ rowBeside (now (out .entry)) (rowIndex side (10 + n) at) n vertex) r ⌝ }
+{
+    let end = write_vertex(vertex, out, row_index(side, n, at)) + n;
+    if side < at {
+        let second = at - (10 + n);
+        let p = copy_row(out, side, n, at);
+        copy_row(out, second, n, p);
+        return end;
+    }
+    end
 }

@@ -7,10 +7,9 @@ ghost use lib.Ieee.{nan};
 ghost use Rattle.lists.specs.Lists.{part};
 ghost use Rattle.lists.specs.Writing.{Written};
 ghost use Rattle.rows.specs.Inner.Layouts.{heldRanges};
-ghost use Rattle.triangles.specs.Inner.Vertices.{verticesIn, VerticesThere, Flagged, flagOfVertex, rowOfVertex, rowBeside, sharedRows, rowIndex};
+ghost use Rattle.triangles.specs.Inner.Vertices.{verticesIn, VerticesThere, Flagged, flagOfVertex, rowOfVertex};
 use rows::Layout;
 use rows::Place;
-use rows::Vertex;
 
 // How the vertices stand one after the other: each takes size places, of which those of its flag come first.
 pub struct Vertices {
@@ -50,55 +49,6 @@ pub fn copy_row(n: usize, from: usize, out: &mut [f64], at: usize) -> usize
     rows::copy_row(out, from, n, at)
 }
 
-// Writes the rows of a triangle that come with a vertex: where it is joined to the triangle before by a side, whose first row stands at index side and
-// whose second right before `at`, those two; then the row of the vertex, whose components stand beside it already. Where there is no side,
-// `side` is `at`.
-fn write_corner(vertex: Vertex, side: usize, n: usize, out: &mut [f64], at: usize) -> usize
-    requires { ⌜ (n ≤ 32) × (at + (n + 10) ≤ length (now out)) × (side < at → (side + (n + 10) ≤ at) × (at + 3 * (n + 10) ≤ length (now out))) ⌝ }
-    ensures { λ r. ⌜ Written (now (out .entry)) (now (out .exit)) at (sharedRows (now (out .entry)) side (n + 10) at ++ rowBeside (now (out .entry)) (rowIndex side (n + 10) at) n vertex) r ⌝ }
-{
-    if side < at {
-        let second = at - (n + 10);
-        let p = copy_row(n, side, out, at);
-        let q = copy_row(n, second, out, p);
-        return rows::write_vertex(vertex, out, q) + n;
-    }
-    rows::write_vertex(vertex, out, at) + n
-}
-
-// Where the row of a vertex begins that comes with or without a side.
-fn row_index(side: usize, n: usize, at: usize) -> usize
-    requires { ⌜ (n ≤ 32) × (at ≤ 1152921504606846976) ⌝ }
-    ensures { λ r. ⌜ r ≡ rowIndex side (n + 10) at ⌝ }
-{
-    if side < at {
-        return at + 2 * (n + 10);
-    }
-    at
-}
-
-// Reads vertex i, and writes the rows that come with it.
-fn add_vertex(
-    data: &[u8],
-    values: &[f64],
-    vertices: Vertices,
-    ranges: &[f64; 68],
-    i: usize,
-    side: usize,
-    out: &mut [f64],
-    at: usize,
-) -> usize
-    requires { ⌜ VerticesThere vertices (now «data») (now values) × (i < vertices .total) × (at + (vertices .layout .n + 10) ≤ length (now out)) × (side < at → (side + (vertices .layout .n + 10) ≤ at) × (at + 3 * (vertices .layout .n + 10) ≤ length (now out))) ⌝ }
-    ensures { λ r. ⌜ Written (now (out .entry)) (now (out .exit)) at (sharedRows (now (out .entry)) side (vertices .layout .n + 10) at ++ rowOfVertex vertices (now («data» .entry)) (now (values .entry)) (heldRanges (now (ranges .entry))) i) r ⌝ }
-{
-    let layout = vertices.layout;
-    let n = layout.n;
-    let place = Place(i * vertices.size + layout.flag);
-    let row = row_index(side, n, at);
-    let vertex = rows::read_vertex(data, values, layout, ranges, place, out, row);
-    write_corner(vertex, side, n, out, at)
-}
-
 // Writes the row of vertex i.
 pub fn write_vertex(
     data: &[u8],
@@ -113,7 +63,9 @@ pub fn write_vertex(
     ensures { λ r. ⌜ r ≡ at + (vertices .layout .n + 10) ⌝ }
     ensures { λ r. ⌜ Written (now (out .entry)) (now (out .exit)) at (rowOfVertex vertices (now («data» .entry)) (now (values .entry)) (heldRanges (now (ranges .entry))) i) r ⌝ }
 {
-    add_vertex(data, values, vertices, ranges, i, at, out, at)
+    let layout = vertices.layout;
+    let place = Place(i * vertices.size + layout.flag);
+    rows::place_corner(data, values, layout, ranges, place, at, out, at)
 }
 
 // Writes the row that stands at index first, the row right before `at`, and the row of vertex i.
@@ -131,5 +83,7 @@ pub fn write_joined(
     ensures { λ r. ⌜ r ≡ at + 3 * (vertices .layout .n + 10) ⌝ }
     ensures { λ r. ⌜ Written (now (out .entry)) (now (out .exit)) at (part nan (now (out .entry)) first (vertices .layout .n + 10) ++ (part nan (now (out .entry)) (at - (vertices .layout .n + 10)) (vertices .layout .n + 10) ++ rowOfVertex vertices (now («data» .entry)) (now (values .entry)) (heldRanges (now (ranges .entry))) i)) r ⌝ }
 {
-    add_vertex(data, values, vertices, ranges, i, first, out, at)
+    let layout = vertices.layout;
+    let place = Place(i * vertices.size + layout.flag);
+    rows::place_corner(data, values, layout, ranges, place, first, out, at)
 }

@@ -10,12 +10,16 @@ use Rattle.bits.specs.declared.BitRead.the-variants.{Number, End}
 use Rattle.bits.specs.Bits.{fieldAt}
 use Rattle.bits.specs.Reading.{readAt}
 use Rattle.decode.specs.Decode.{Ranges, ranges, flagOf}
-use Rattle.colour.specs.Inner.Places.{Numbers, bitNumbers, listNumbers}
+use Rattle.colour.specs.Inner.Places.{Numbers, bitNumbers, listNumbers, vertexAt}
 use Rattle.rows.specs.declared.Layout.{Layout}
 
 -- the numbers of a layout
 unfoldable pub numbersOf : Layout → List ℕ → List Float → Ranges → Numbers
 numbersOf L s vs R = cond (L .listed) (listNumbers vs) (bitNumbers s R)
+
+-- the row of the vertex whose coordinates begin at a place
+unfoldable pub vertexIn : Layout → List ℕ → List Float → Ranges → ℕ → List Float
+vertexIn L s vs R p = cond (L .listed) (vertexAt (listNumbers vs) 1 1 (L .n) p) (vertexAt (bitNumbers s R) (L .coord) (L .comp) (L .n) p)
 
 -- the flag at a place where there is one
 unfoldable pub flagIn : Layout → List ℕ → List Float → ℕ → ℕ

@@ -1,15 +1,14 @@
 -- What a function that places numbers needs, and what it does: all of it where all is there that it needs, else nothing.
-use Prim.Native.Nat.{ℕ, _+_, _*_, _≤_}
+use Prim.Native.Nat.{ℕ, _+_, _-_, _*_, _≤_}
 use mathlib.Core.Path.{_≡_}
 use mathlib.Core.Bool.{Bool, true, false, _&&_, cond}
-use mathlib.Core.List.{List, [], _∷_}
+use mathlib.Core.List.{List, [], _∷_, _++_}
 use lib.ListN.{length, getD}
-use lib.Dec.{leb, eqb}
+use lib.Dec.{leb, ltb, eqb}
 use lib.Ieee.{Float, nan}
-use Rattle.lists.specs.Writing.{put}
+use Rattle.lists.specs.Lists.{part}
 use Rattle.bits.specs.Reading.{readable}
 use Rattle.answers.specs.Limits.{mostComponents, mostBytes}
-use Rattle.decode.specs.Floats.{float0}
 use Rattle.colour.specs.Colour.{colourOf, colourNumbers}
 use Rattle.rows.specs.declared.Layout.{Layout}
 use Rattle.rows.specs.declared.Run.{Run}
@@ -63,25 +62,41 @@ pub record NumbersThere (L : Layout) (s : List ℕ) (vs : List Float) (p size : 
   pub in-bits : L .listed ≡ false
       → (1 ≤ L .coord) × (L .coord ≤ 32) × (1 ≤ L .comp) × (L .comp ≤ 32) × (length s ≤ mostBytes) × (p + size ≤ 8 * length s)
 
--- ---- a vertex
-
--- a point and a colour
-abbrev pub one : Run
-one = record { points = 1; colours = 1 }
+-- ---- a vertex, and the side by which it is joined
 
 -- the vertex of a point and components
 abbrev pub vertexOf : List Float → List Float → Vertex
 vertexOf point comps = record { x = getD point 0 nan; y = getD point 1 nan; colour = colourOf comps }
 
--- what stands for a vertex that is not there
-abbrev pub blank : Vertex
-blank = record { x = float0; y = float0; colour = colourOf [] }
-
 -- what a row has before the components
 abbrev pub tenNumbers : Vertex → List Float
 tenNumbers v = v .x ∷ v .y ∷ colourNumbers (v .colour)
 
--- where ok holds, v is the vertex, and its components stand in the output beside the row that begins at index at
-pub record VertexPlaced (ok : Bool) (point comps entry exit : List Float) (at : ℕ) (v : Vertex) : Type 0 where
-  pub is : v ≡ cond ok (vertexOf point comps) blank
-  pub held : exit ≡ cond ok (put entry (at + 10) comps) entry
+-- the row of a vertex, whose n components stand in the output beside the ten places from index at on
+abbrev pub rowBeside : List Float → ℕ → ℕ → Vertex → List Float
+rowBeside o at n v = tenNumbers v ++ part nan o (at + 10) n
+
+-- the two rows of the side, where index side is before index at: the one that stands there, and the one right before at
+unfoldable pub sharedRows : List Float → ℕ → ℕ → ℕ → List Float
+sharedRows o side size at = cond (ltb side at) (part nan o side size ++ part nan o (at - size) size) []
+
+-- where the row of the vertex itself begins
+abbrev pub rowIndex : ℕ → ℕ → ℕ → ℕ
+rowIndex side size at = cond (ltb side at) (at + 2 * size) at
+
+-- a vertex has few enough components, the side stands before index at, and an output of room elements has places for the rows from there on
+unfoldable pub rowsFit : ℕ → ℕ → ℕ → ℕ → Bool
+rowsFit n side at room =
+    leb n mostComponents
+    && cond (ltb side at) (leb (side + (10 + n)) at && leb (at + 3 * (10 + n)) room) (leb (at + (10 + n)) room)
+
+-- the bits of a vertex from place p on are there, in a slice that a reader accepts
+unfoldable pub bitsFit : Layout → List ℕ → ℕ → Bool
+bitsFit L s p =
+    readable (L .coord)
+    && (readable (L .comp) && (leb (length s) mostBytes && leb (p + (2 * L .coord + L .n * L .comp)) (8 * length s)))
+
+-- all of that; in a list each number takes one place
+abbrev pub cornerFits : Layout → List ℕ → List Float → ℕ → ℕ → ℕ → ℕ → Bool
+cornerFits L s vs p side at room =
+    rowsFit (L .n) side at room && cond (L .listed) (leb (p + (2 + L .n)) (length vs)) (bitsFit L s p)

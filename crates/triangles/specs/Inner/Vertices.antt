@@ -1,9 +1,8 @@
 -- What the inner functions promise one another of the vertices that they read and of their rows.
-use Prim.Native.Nat.{ℕ, _+_, _-_, _*_, _/_, _≤_}
+use Prim.Native.Nat.{ℕ, _+_, _*_, _/_, _≤_}
 use mathlib.Core.Path.{_≡_}
 use mathlib.Core.Bool.{Bool, true, false, cond}
-use mathlib.Core.List.{List, [], _∷_, _++_}
-use lib.Dec.{ltb}
+use mathlib.Core.List.{List, [], _∷_}
 use lib.ListN.{length}
 use lib.Ieee.{Float, nan}
 use Rattle.lists.specs.Lists.{joined, part}
@@ -11,9 +10,7 @@ use Rattle.answers.specs.Limits.{mostComponents, mostBytes, mostNumbers}
 use Rattle.decode.specs.Decode.{Ranges}
 use Rattle.colour.specs.Inner.Places.{vertexAt}
 use Rattle.rows.specs.declared.Layout.{Layout}
-use Rattle.rows.specs.declared.Vertex.{Vertex}
 use Rattle.rows.specs.Inner.Layouts.{numbersOf, flagIn}
-use Rattle.rows.specs.Inner.Placing.{tenNumbers}
 use Rattle.rules.specs.Triangles.{Tri, Rule, triangleBefore, lastThree, triangles}
 use Rattle.triangles.specs.declared.vertices.Vertices.{Vertices}
 
@@ -72,15 +69,3 @@ trianglesIn keepsLastThree v s vs = triangles (ruleOf keepsLastThree) (joined (v
 pub record RowStands (out : List Float) (from size at : ℕ) (row : List Float) : Type 0 where
   pub before : from + size ≤ at
   pub held : part nan out from size ≡ row
-
--- the row of a vertex, whose n components stand in the output beside the ten places from index at on
-abbrev pub rowBeside : List Float → ℕ → ℕ → Vertex → List Float
-rowBeside o at n v = tenNumbers v ++ part nan o (at + 10) n
-
--- the two rows of the side by which a vertex is joined, where index side is before index at: the one that stands there, and the one right before at
-unfoldable pub sharedRows : List Float → ℕ → ℕ → ℕ → List Float
-sharedRows o side size at = cond (ltb side at) (part nan o side size ++ part nan o (at - size) size) []
-
--- where the row of the vertex itself begins
-abbrev pub rowIndex : ℕ → ℕ → ℕ → ℕ
-rowIndex side size at = cond (ltb side at) (at + 2 * size) at

@@ -1,8 +1,8 @@
--- `triangles::vertices::row_index` meets its contract: after two shared rows, or at once. Assumes nothing.
+-- `rows::writing::row_index` meets its contract: after the two rows of a side, or at once. Assumes nothing.
 use borrow.Author.Tests.{lt-ltb, le-ltb}
 use borrow.Author.Needs.{needs}
-use Rattle.triangles.proofs.vertices.row_index.Statement.{statement}
-use Rattle.triangles.proofs.vertices.row_index.Tie as tie
+use Rattle.rows.proofs.writing.row_index.Statement.{statement}
+use Rattle.rows.proofs.writing.row_index.Tie as tie
 
 add-result : tie.Need-add-result
 add-result c = search needs
