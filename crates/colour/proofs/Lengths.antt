@@ -1,7 +1,7 @@
 -- How many numbers rows take. Assumes nothing.
 use Prim.Native.Nat.{ℕ, _+_, _*_}
 use mathlib.Core.Path.{_≡_, refl, ap, _∙_}
-use mathlib.Core.List.{List, _++_}
+use mathlib.Core.List.{List}
 use native.Mathlib.Nat.{mul-one, mul-comm}
 use native.Mathlib.Omega.{arith}
 use lib.ListN.{length, length-append}

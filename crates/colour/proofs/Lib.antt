@@ -2,4 +2,3 @@ pub mod Counts
 pub mod Within
 pub mod Lengths
 pub mod Components
-pub mod Agreement

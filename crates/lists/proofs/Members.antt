@@ -4,7 +4,6 @@ use mathlib.Core.Path.{_≡_, refl, sym, ap, _∙_}
 use mathlib.Core.List.{List, [], _∷_, _++_, append-assoc, append-nil}
 use native.Mathlib.Omega.{arith}
 use lib.ListN.{length, getD, take, drop, replicate, take-append-drop}
-use lib.Seq.{take-append-seam}
 use Rattle.lists.specs.Lists.{All, Begins}
 
 module _ {A : Type 0} (P : A → Type 0) where
@@ -53,7 +52,3 @@ module _ {A : Type 0} where
 
   pub begins-of-take : (k : ℕ) (l : List A) → Begins (take k l) l
   begins-of-take k l = record { rest = drop k l; is = sym (take-append-drop k l) }
-
-  -- a beginning is what the list has before its length
-  pub begins-take : {xs ys : List A} → Begins xs ys → xs ≡ take (length xs) ys
-  begins-take {xs} {ys} b = sym (ap (take (length xs)) (b .is) ∙ take-append-seam xs (b .rest))

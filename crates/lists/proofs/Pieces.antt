@@ -2,7 +2,7 @@
 use Prim.Native.Nat.{ℕ, zero, suc, _+_, _-_, _*_, _≤_, _<_}
 use mathlib.Core.Path.{_≡_, refl, sym, ap, _∙_}
 use mathlib.Core.List.{List, [], _∷_, _++_, append-assoc, append-nil}
-use native.Mathlib.Nat.{add-zero, add-suc, add-assoc, add-sub-of-le, le-refl, zero-mul, mul-one, suc-mul}
+use native.Mathlib.Nat.{add-zero, add-suc, add-assoc, zero-mul, mul-one, suc-mul}
 use native.Mathlib.Numerals.{add-one}
 use native.Mathlib.Omega.{arith}
 use lib.ListN.{length, getD, take, drop, length-append, length-drop, List·getD-append}
@@ -26,18 +26,6 @@ module _ {A : Type 0} where
   unfolding joined
   joined-same zero f g h = refl
   joined-same (suc k) f g h = rw (joined-same k f g (λ j l. h j (omega arith)), h k (omega arith))
-
-  joined-grows : (c m : ℕ) (g : ℕ → List A) → length (joined c g) ≤ length (joined (c + m) g)
-  unfolding joined
-  joined-grows c zero g = rw add-zero (le-refl _)
-  joined-grows c (suc m) g = rw (add-suc, length-append) (omega (arith, joined-grows c m g))
-
-  -- of k pieces one after the other, the first c and the next take no more than all
-  pub joined-room : (c k : ℕ) (g : ℕ → List A) → c < k → length (joined c g) + length (g c) ≤ length (joined k g)
-  unfolding joined
-  joined-room c k g h =
-      let e : suc c + (k - suc c) ≡ k = add-sub-of-le h in
-      omega (arith, length-append (joined c g) (g c), rw e at (joined-grows (suc c) (k - suc c) g))
 
   pub length-singles : (f : ℕ → A) (k : ℕ) → length (joined k (λ (i : ℕ). f i ∷ [])) ≡ k
   length-singles f k = length-joined k 1 (λ (i : ℕ). f i ∷ []) (λ i. refl) ∙ mul-one k

@@ -9,7 +9,7 @@ use lib.ListN.{length, getD, take, drop, set, length-append, length-drop, take-a
 use lib.Seq.{length-take-le, take-at, drop-append-add, drop-drop, set-split, getD-take}
 use Rattle.lists.specs.Lists.{joined, part}
 use Rattle.lists.specs.Writing.{put, Written}
-use Rattle.lists.proofs.Pieces.{joined-more, joined-same, part-take, part-then, part-middle}
+use Rattle.lists.proofs.Pieces.{joined-more, joined-same, part-then, part-middle}
 
 module _ {A : Type 0} where
   put-nil : (l : List A) (at : ℕ) → l ≡ put l at []
@@ -159,10 +159,3 @@ module _ {A : Type 0} where
 
   pub written-take : {l o : List A} {p : ℕ} {xs : List A} → Written l o 0 xs p → take p o ≡ xs
   written-take {l} {o} {p} {xs} w = rw (written-front w) (take-at xs (drop (length xs) l) p (omega (arith, w .after)))
-
-  pub written-back : (d : A) {l o : List A} {p : ℕ} {xs : List A} → Written l o 0 xs p → part d o 0 p ≡ xs
-  written-back d {l} {o} {p} {xs} w =
-      let n = written-length w in
-      let r = w .room in
-      let a = w .after in
-      rw (part-take d o 0 p (omega arith), written-take w)

@@ -6,8 +6,8 @@ use Prim.Native.Nat.{ℕ, _+_, _-_, _*_, _/_, _≤_, _<_}
 use native.Mathlib.Nat.{mul-le-mul-right, div-mul-le-self, mul-zero, zero-mul}
 use native.Mathlib.Omega.{arith}
 use lib.ListN.{length}
-use Rattle.lists.specs.Lists.{joined, flat, All, Begins}
-use Rattle.lists.proofs.Pieces.{length-joined, joined-same, flat-joined}
+use Rattle.lists.specs.Lists.{joined, All, Begins}
+use Rattle.lists.proofs.Pieces.{length-joined, joined-same}
 use Rattle.rules.specs.Triangles.{Tri}
 use Rattle.rules.specs.Lattice.{cell, lattice}
 use Rattle.rules.specs.Clauses.{upper, lower, turned}
@@ -52,14 +52,6 @@ pub lattice-begins : (count more k : ℕ) → count ≤ more → Begins (lattice
 unfolding lattice
 lattice-begins count more k h =
     joined-begins (count / k - 1) (more / k - 1) _ _ (omega (arith, div-grows count more k h)) (λ i l. refl)
-
--- what is written of the triangles, row by row and cell by cell
-pub lattice-flat : {A : Type 0} (f : Tri → List A) (count rowLength : ℕ)
-    → flat f (lattice count rowLength)
-    ≡ joined (count / rowLength - 1) (λ (row : ℕ). joined (rowLength - 1) (λ (column : ℕ). flat f (cell rowLength (row * rowLength + column))))
-unfolding lattice
-lattice-flat f count rowLength =
-    flat-joined f (count / rowLength - 1) _ ∙ joined-same (count / rowLength - 1) _ _ (λ row l. flat-joined f (rowLength - 1) _)
 
 -- the clause's triangles, but that the second of a cell is turned
 pub lattice-clause : (count k : ℕ)

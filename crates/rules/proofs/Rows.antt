@@ -1,13 +1,11 @@
 -- What triangles and patches are written as: lengths, and what a writer finds again in its output to copy. Assumes nothing.
 use mathlib.Core.Path.{_≡_}
-use mathlib.Core.List.{List, [], _∷_, _++_, append-assoc, append-nil}
-use Prim.Native.Nat.{ℕ, _+_, _-_, _*_, _≤_, _<_}
+use mathlib.Core.List.{List, _++_, append-assoc}
+use Prim.Native.Nat.{ℕ, _+_, _-_, _*_, _<_}
 use native.Mathlib.Omega.{arith}
 use lib.ListN.{length, take, drop, length-append}
 use Rattle.lists.specs.Lists.{part, flat, All, AllBelow}
-use Rattle.lists.specs.Writing.{Written}
-use Rattle.lists.proofs.Pieces.{length-flat, flat-append, flat-more}
-use Rattle.lists.proofs.Writing.{written-part}
+use Rattle.lists.proofs.Pieces.{length-flat, flat-append}
 use Rattle.rules.specs.Triangles.{Tri, corners}
 use Rattle.rules.specs.Patches.{Patch, Places, Table, at, onto, patchRow}
 use Rattle.rules.specs.Meshes.{Source, patches, patchMesh}
@@ -22,38 +20,6 @@ module _ {A : Type 0} (row : ℕ → List A) (size : ℕ) (sized : (i : ℕ) →
   pub length-corners : (ts : List Tri) → length (flat (corners row) ts) ≡ length ts * (3 * size)
   unfolding corners
   length-corners ts = length-flat (corners row) (3 * size) ts (λ t. simp (length-append, sized) (omega arith))
-
-  -- the rows of the last triangle stand right before the end
-  pub record LastRows (d : A) (o : List A) (p : ℕ) (t : Tri) : Type 0 where
-    pub enough : 3 * size ≤ p
-    pub row-a : part d o (p - 3 * size) size ≡ row (t .a)
-    pub row-b : part d o (p - 2 * size) size ≡ row (t .b)
-    pub row-c : part d o (p - size) size ≡ row (t .c)
-
-  pub last-rows : (d : A) {l o : List A} {p : ℕ} (front : List Tri) (t : Tri) → Written l o 0 (flat (corners row) (front ++ (t ∷ []))) p
-      → LastRows d o p t
-  unfolding corners
-  last-rows d {l} {o} {p} front t w =
-      let f : List A = flat (corners row) front in
-      let a : List A = row (t .a) in
-      let b : List A = row (t .b) in
-      let c : List A = row (t .c) in
-      let la : length a ≡ size = sized _ in
-      let lb : length b ≡ size = sized _ in
-      let lc : length c ≡ size = sized _ in
-      let v : Written l o 0 (f ++ (a ++ (b ++ c))) p = rw (flat-more (corners row) front t) at w in
-      let v₂ : Written l o 0 ((f ++ a) ++ (b ++ c)) p = rw append-assoc v in
-      let v₃ : Written l o 0 (((f ++ a) ++ b) ++ (c ++ [])) p = rw (append-nil c, append-assoc (f ++ a) b c) v₂ in
-      let n : length (f ++ (a ++ (b ++ c))) ≡ length f + 3 * size = simp length-append (omega arith) in
-      let n₂ : length (f ++ a) ≡ length f + size = simp length-append (omega arith) in
-      let n₃ : length ((f ++ a) ++ b) ≡ length f + 2 * size = simp length-append (omega arith) in
-      let q : p ≡ 0 + length (f ++ (a ++ (b ++ c))) = v .after in
-      record {
-        enough = omega arith;
-        row-a = written-part d f a (b ++ c) (p - 3 * size) size v (omega arith) la;
-        row-b = written-part d (f ++ a) b c (p - 2 * size) size v₂ (omega arith) lb;
-        row-c = written-part d ((f ++ a) ++ b) c [] (p - size) size v₃ (omega arith) lc;
-      }
 
 -- ---- patches
 
