@@ -6,6 +6,7 @@ ghost use lib.ListN.{length, getD, replicate};
 ghost use Rattle.lists.specs.Writing.{Written};
 ghost use Rattle.answers.specs.Limits.{mostBytes};
 ghost use Rattle.answers.specs.Outcome.{Done};
+ghost use Rattle.bits.specs.Reading.{readAt};
 ghost use Rattle.records.specs.declared.shape.Kind.the-variants as Kind;
 ghost use Rattle.records.specs.Format.{rawReading};
 ghost use Rattle.records.specs.Raw.{rawRead};
@@ -38,12 +39,22 @@ fn record_size(mesh: Mesh, coords: usize, comps: usize) -> usize
     mesh.first + (coords * mesh.coord + comps * mesh.comp)
 }
 
+// The flag of a record at a place. That of the first record goes by `bits::read_seldom`: with a second caller it stays out of the loops that read.
+fn read_flag(data: &[u8], at: BitPos, width: usize, started: bool) -> BitRead
+    ensures { λ r. ⌜ r ≡ readAt (now («data» .entry)) (at .0) width ⌝ }
+{
+    if started {
+        return bits::read(data, at, width);
+    }
+    bits::read_seldom(data, at, width)
+}
+
 // Finds the record at a place from its first number.
 fn find_record(data: &[u8], mesh: Mesh, started: bool, at: BitPos) -> Found
     requires { ⌜ Readable mesh × (length (now «data») ≤ mostBytes) × (at .0 ≤ 8 * length (now «data»)) ⌝ }
     ensures { λ r. ⌜ FoundAt mesh (now («data» .entry)) started (at .0) r ⌝ }
 {
-    let BitRead::Number(lead, _) = bits::read_seldom(data, at, mesh.first) else {
+    let BitRead::Number(lead, _) = read_flag(data, at, mesh.first, started) else {
         return Found::End;
     };
     let kind = mesh.kind;

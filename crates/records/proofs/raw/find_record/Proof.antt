@@ -8,8 +8,8 @@ use Rattle.records.proofs.Finding.{no-first-number, mesh-ends, record-c
 use Rattle.records.proofs.raw.find_record.Statement.{statement}
 use Rattle.records.proofs.raw.find_record.Tie as tie
 
-read-seldom-requires : tie.Need-read-seldom-requires
-read-seldom-requires c κs = search needs
+read-flag-requires : tie.Need-read-flag-requires
+read-flag-requires c κs = search needs
 
 enum-known-lead : tie.Need-enum-known-lead
 enum-known-lead c = search needs
@@ -24,7 +24,7 @@ returns c =
     let z = i .before .before .pre in
     let r = z .0 in
     no-first-number (a .mesh) (a .«data» .now) (a .started) (a .at .0) (z .2)
-    (ended _ _ _ (r .first-some) (r .first-few) (omega arith) (sym (c .enum-told .given .1) ∙ i .read-seldom .ensures))
+    (ended _ _ _ (r .first-some) (r .first-few) (omega arith) (sym (c .enum-told .given .1) ∙ i .read-flag .ensures))
 
 shape-of-requires : tie.Need-shape-of-requires
 shape-of-requires c κs = search needs
@@ -42,7 +42,7 @@ returns-2 c =
     let j = i .before .before .before .before in
     let a = j .before .before .args in
     let z = j .before .before .pre in
-    let f = found _ _ _ (z .0 .first-some) (g .0 .0) (g .0 .1 .0) (sym (g .1) ∙ j .read-seldom .ensures) in
+    let f = found _ _ _ (z .0 .first-some) (g .0 .0) (g .0 .1 .0) (sym (g .1) ∙ j .read-flag .ensures) in
     mesh-ends (a .mesh) (a .«data» .now) (a .started) (a .at .0) (z .2) (g .0 .0) (f .value) (sym (c .enum-told2 .given .1) ∙ i .shape-of .ensures)
 
 mul-comps : tie.Need-mul-comps
@@ -72,7 +72,7 @@ returns-3 c =
     let j = i .before .before .before .before in
     let a = j .before .before .args in
     let z = j .before .before .pre in
-    let f = found _ _ _ (z .0 .first-some) (g .0 .0) (g .0 .1 .0) (sym (g .1) ∙ j .read-seldom .ensures) in
+    let f = found _ _ _ (z .0 .first-some) (g .0 .0) (g .0 .1 .0) (sym (g .1) ∙ j .read-flag .ensures) in
     let e = sym (k .coords .given .1) ∙ i .shape-of .ensures in
     let n = c .before .before .record-size .ensures .0 in
     record-cut (a .mesh) (a .«data» .now) (a .started) (a .at .0) (z .2) (g .0 .0) (f .value) e (omega (arith, n, c .if1 .taken))
@@ -85,7 +85,7 @@ returns-4 c =
     let j = i .before .before .before .before in
     let a = j .before .before .args in
     let z = j .before .before .pre in
-    let f = found _ _ _ (z .0 .first-some) (g .0 .0) (g .0 .1 .0) (sym (g .1) ∙ j .read-seldom .ensures) in
+    let f = found _ _ _ (z .0 .first-some) (g .0 .0) (g .0 .1 .0) (sym (g .1) ∙ j .read-flag .ensures) in
     let e = sym (k .coords .given .1) ∙ i .shape-of .ensures in
     let n = c .before .before .record-size .ensures .0 in
     record-stands (a .mesh) (a .«data» .now) (a .started) (a .at .0) (z .2) (g .0 .0) (f .value) e _ (small _ _ (z .0) e)
@@ -95,7 +95,7 @@ pub find-record-spec : {M : Type 1} → statement M
 find-record-spec =
     tie.close
     (tie.spec
-    read-seldom-requires
+    read-flag-requires
     enum-known-lead
     enum-told
     returns
