@@ -192,7 +192,7 @@ module _ {A : Type 0} (d : A) (flagOf : A → ℕ) (own n : ℕ) where
   abbrev pub PieceWhole : Piece (List A) (List A) → Type 0
   PieceWhole q = Numbered (pointsAfter own (q .flag)) (coloursAfter (q .flag)) n (q .body)
 
-  to-whole : (k : ℕ) (xs : List A) → All PieceWhole (piecesTo d flagOf own n k xs)
+  pub to-whole : (k : ℕ) (xs : List A) → All PieceWhole (piecesTo d flagOf own n k xs)
   unfolding piecesTo
   to-whole zero xs = tt
   to-whole (suc k) [] = tt

@@ -96,7 +96,7 @@ patchRow-decoded f g point colour (p ∷ ps) =
 
 -- ---- what each patch has
 
-all-found : {A : Type 0} (S : A → Type 0) (l : List A) (i : ℕ) (x : A) → All S l → getElem? l i ≡ some x → S x
+pub all-found : {A : Type 0} (S : A → Type 0) (l : List A) (i : ℕ) (x : A) → All S l → getElem? l i ≡ some x → S x
 all-found S [] i x a e = absurd (Option·none-ne-some x e)
 all-found S (y ∷ l) zero x a e = subst S (Option·some-injective y x e) (a .0)
 all-found S (y ∷ l) (suc i) x a e = all-found S l i x (a .1) e

@@ -49,7 +49,7 @@ module _ (own first coord comp n : ℕ) where
       go false e = absurd (Option·none-ne-some ws e)
 
   -- and gives a patch
-  more-gives : {P C : Type 0} (b : Option (Patch P C)) (f : ℕ) (o : Patch P C) (ws : List ℕ) → F .more (there b) f ≡ some ws
+  pub more-gives : {P C : Type 0} (b : Option (Patch P C)) (f : ℕ) (o : Patch P C) (ws : List ℕ) → F .more (there b) f ≡ some ws
       → (p : Patch P C) × (patchOf sides b f o ≡ some p)
   more-gives b zero o ws e = (o, refl)
   more-gives none (suc f) o ws e = absurd (Option·none-ne-some ws (rw (eqb·suc-zero f) at e))

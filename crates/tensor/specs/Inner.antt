@@ -1,0 +1,3 @@
+-- What inner functions promise one another; no public contract cites it.
+pub mod Standing
+pub mod Placing
