@@ -1,4 +1,5 @@
-/* The proved reader and writer of PDF mesh streams (ISO 32000-1, shading types 4 to 7).
+/* The proved reader and writer of PDF mesh streams (ISO 32000-1, shading types 4 to 7), with what turns Coons patches into
+ * tensor-product patches.
  *
  * Link with libstation.a. Each function answers for every input, ends, allocates nothing and keeps nothing between
  * calls, so any number of threads may call it.
@@ -39,8 +40,9 @@ enum {
     MESH_COMPONENTS = 2, /* a colour has more than 32 components */
     MESH_LENGTH = 3,     /* the input has over 16,777,216 bytes or 1,048,576 numbers (Decode isn't counted) */
     MESH_ROOM = 4,       /* the whole answer needs more places than `out` has */
-    MESH_RECORD = 5,     /* writers: a number doesn't fit its width, the list ends inside a record, or a patch's flag is
-                            above 3 or the first one isn't 0 */
+    MESH_RECORD = 5,     /* writers: a number doesn't fit its width; writers and mesh_coons_to_tensor_raw: the list ends
+                            inside a record, or a patch's flag is above 3 or the first one isn't 0;
+                            mesh_coons_to_tensor: the list isn't whole patches */
     MESH_THIN = 6,       /* writers of Types 4 and 5: a vertex takes under 8 bits */
     MESH_FILE = 7        /* the dump program alone: not a mesh file */
 };
@@ -153,6 +155,25 @@ mesh_answer mesh_raw_write_type6(const uint32_t *numbers, size_t numbers_len, si
 /* Type 7: a flag, points and colours for each patch. */
 mesh_answer mesh_raw_write_type7(const uint32_t *numbers, size_t numbers_len, size_t coord,
     size_t comp, size_t flag, size_t n, uint8_t *out, size_t out_len);
+
+/* ---- Coons patches (Type 6) as tensor-product patches (Type 7), by the four formulas of 8.7.4.5.8. The 16 points come
+ * out in stream order: the border p00 p01 p02 p03 p13 p23 p33 p32 p31 p30 p20 p10, then p11 p12 p22 p21. Refusals, in this
+ * order: COMPONENTS, LENGTH, RECORD, ROOM */
+
+/* From raw numbers, as mesh_raw_read_type6 writes them. Sides that flags 1 to 3 take over are filled in first. Each patch
+ * becomes 32 + 4 * n numbers, without a flag: x and y of the 16 points, each exactly nine times the coordinate, then the
+ * four colours of n raw components as they are. */
+mesh_answer mesh_coons_to_tensor_raw(const uint32_t *numbers, size_t numbers_len, size_t n,
+    int64_t *out, size_t out_len);
+
+/* From patches as the readers and builders of Type 6 write them, to patches as those of Type 7 do: 24 + 4 * (8 + n) doubles
+ * become 32 + 4 * (8 + n). The border and the colours are copied. Each inner coordinate is
+ *     ((((-4 * a + 6 * (b + c)) - 2 * (d + e)) + 3 * (f + g)) - h) / 9
+ * with every operation rounded by itself, in this order, where a to h are, for
+ *     p11: p00 p01 p10 p03 p30 p31 p13 p33      p12: p03 p02 p13 p00 p33 p32 p10 p30
+ *     p22: p33 p32 p23 p30 p03 p02 p20 p00      p21: p30 p31 p20 p33 p00 p01 p23 p03 */
+mesh_answer mesh_coons_to_tensor(const double *values, size_t values_len, size_t n, double *out,
+    size_t out_len);
 
 #ifdef __cplusplus
 }

@@ -41,7 +41,7 @@ impl fmt::Display for Refusal {
             Refusal::Length => "the input is longer than 16,777,216 bytes or 1,048,576 numbers",
             Refusal::Room => "the output lent is too small for the whole answer",
             Refusal::Record => {
-                "a number doesn't fit its width, the list ends inside a record, or a flag breaks the rule"
+                "a number doesn't fit its width, the list ends inside a record or patch, or a flag breaks the rule"
             }
             Refusal::Thin => "a vertex takes under 8 bits, so fill bits could be read back as one",
             Refusal::File => "not a mesh file of a known kind",
@@ -112,6 +112,23 @@ archive!(RawWrite(numbers: *const u32, numbers_len: usize, coord: usize, comp: u
 archive!(RawWriteLattice(numbers: *const u32, numbers_len: usize, coord: usize, comp: usize, n: usize,
     out: *mut u8, out_len: usize):
     mesh_raw_write_type5);
+
+extern "C" {
+    fn mesh_coons_to_tensor_raw(
+        numbers: *const u32,
+        numbers_len: usize,
+        n: usize,
+        out: *mut i64,
+        out_len: usize,
+    ) -> Told;
+    fn mesh_coons_to_tensor(
+        values: *const f64,
+        values_len: usize,
+        n: usize,
+        out: *mut f64,
+        out_len: usize,
+    ) -> Told;
+}
 
 // A function of the archive asks that each pointer is valid for its length while the call lasts, and that the output overlaps no input. A
 // slice and a `&mut` slice are just that, so every call below is sound.
@@ -226,4 +243,30 @@ pub fn raw_write(kind: Kind, numbers: &[u32], l: Layout, out: &mut [u8]) -> Resu
         Kind::Type7 => flagged(mesh_raw_write_type7),
     }
     .result()
+}
+
+/// Turns raw Type 6 numbers into tensor patches, with the sides that flags 1 to 3 take over filled in. Answers how many patches.
+///
+/// A patch is 32 + 4 n numbers, without a flag: the twelve points of the border in stream order, then p11 p12 p22 p21, all of them exactly nine
+/// times the coordinate; then the four colours of n raw components, as they are.
+pub fn coons_to_tensor_raw(
+    numbers: &[u32],
+    components: usize,
+    out: &mut [i64],
+) -> Result<usize, Refusal> {
+    let (d, dn, o, on) = (numbers.as_ptr(), numbers.len(), out.as_mut_ptr(), out.len());
+    unsafe { mesh_coons_to_tensor_raw(d, dn, components, o, on) }.result()
+}
+
+/// Turns the rows of Type 6 patches, as `parse` and `build` write them, into those of Type 7 patches. Answers how many patches.
+///
+/// Border points and colours are copied; each inner coordinate is worked out by the formula of ISO 32000-1, 8.7.4.5.8, in the order that
+/// `include/station.h` gives.
+pub fn coons_to_tensor(
+    values: &[f64],
+    components: usize,
+    out: &mut [f64],
+) -> Result<usize, Refusal> {
+    let (v, vn, o, on) = (values.as_ptr(), values.len(), out.as_mut_ptr(), out.len());
+    unsafe { mesh_coons_to_tensor(v, vn, components, o, on) }.result()
 }

@@ -26,6 +26,7 @@ fn prototype(function: &str) -> String {
                 "&[f64]" => format!("const double *{name}, size_t {name}_len"),
                 "&mut [u8]" => format!("uint8_t *{name}, size_t {name}_len"),
                 "&mut [u32]" => format!("uint32_t *{name}, size_t {name}_len"),
+                "&mut [i64]" => format!("int64_t *{name}, size_t {name}_len"),
                 "&mut [f64]" => format!("double *{name}, size_t {name}_len"),
                 other => panic!("no C type is known for {other}"),
             }
@@ -54,7 +55,7 @@ fn the_header_declares_what_is_exported() {
         .skip(1)
         .map(prototype)
         .collect();
-    assert_eq!(exported.len(), 24);
+    assert_eq!(exported.len(), 26);
     assert_eq!(declared(&read("include/station.h")), exported);
 }
 

@@ -10,6 +10,7 @@ ghost use Rattle.rules.specs.Triangles.{triangleBefore, triangles};
 ghost use Rattle.rules.specs.Ported.{binaryReader, listBuilder};
 ghost use Rattle.rules.specs.Patches.{sides, listSides};
 ghost use Rattle.meshes.specs.Outcomes.{parse4, parse5, parse6, parse7, build4, build5, build6, build7};
+ghost use Rattle.tensor.specs.Outcomes.{coonsToTensorRaw, coonsToTensor};
 use answers::Told;
 
 // Meshes from bytes, as 000 reads them.
@@ -313,4 +314,20 @@ pub extern "C" fn mesh_raw_write_type7(
     ensures { λ r. ⌜ Tells (rawWrite Kind.Seven flag coord comp n (now (numbers .entry)) (length (now (out .entry)))) (now (out .entry)) r (now (out .exit)) ⌝ }
 {
     answers::tell(packing::raw_write_type7(numbers, coord, comp, flag, n, out))
+}
+
+// Coons patches turned into tensor-product patches.
+
+#[no_mangle]
+pub extern "C" fn mesh_coons_to_tensor_raw(numbers: &[u32], n: usize, out: &mut [i64]) -> Told
+    ensures { λ r. ⌜ Tells (coonsToTensorRaw n (now (numbers .entry)) (length (now (out .entry)))) (now (out .entry)) r (now (out .exit)) ⌝ }
+{
+    answers::tell(tensor::coons_to_tensor_raw(numbers, n, out))
+}
+
+#[no_mangle]
+pub extern "C" fn mesh_coons_to_tensor(values: &[f64], n: usize, out: &mut [f64]) -> Told
+    ensures { λ r. ⌜ Tells (coonsToTensor n (now (values .entry)) (length (now (out .entry)))) (now (out .entry)) r (now (out .exit)) ⌝ }
+{
+    answers::tell(tensor::coons_to_tensor(values, n, out))
 }
