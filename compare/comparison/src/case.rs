@@ -175,7 +175,7 @@ impl Case {
 }
 
 /// Longer inputs are shrunk by leaving out numbers, not record by record.
-const MOST_RESHAPED: usize = 4096;
+pub const MOST_RESHAPED: usize = 4096;
 
 /// So many numbers of a longer input are printed.
 const PRINTED: usize = 1024;
@@ -191,7 +191,7 @@ pub fn text<T>(list: &[T], word: impl Fn(&T) -> String) -> String {
 }
 
 /// Numbers by their bits in hex, and as they read.
-fn hex(list: &[f64]) -> String {
+pub fn hex(list: &[f64]) -> String {
     text(list, |x| format!("{:016x} ({x:?})", x.to_bits()))
 }
 

@@ -56,7 +56,7 @@ impl Expected {
 }
 
 /// The flags that the checks need, worked out beside the original.
-fn flags(case: &Case) -> Option<Vec<u32>> {
+pub fn flags(case: &Case) -> Option<Vec<u32>> {
     let (kind, n) = (plain(case.kind), case.layout.components);
     match &case.input {
         Input::List(list) if kind != Kind::Type5 => {
@@ -260,7 +260,7 @@ struct Join {
 }
 
 /// Document 01's first side table: points and colours for flags 1 to 3.
-const SIDES: [([usize; 4], [usize; 2]); 3] = [
+pub const SIDES: [([usize; 4], [usize; 2]); 3] = [
     ([3, 4, 5, 6], [1, 2]),
     ([6, 7, 8, 9], [2, 3]),
     ([9, 10, 11, 0], [3, 0]),

@@ -10,7 +10,7 @@ use crate::report::{Bench, KINDS};
 use generator::Generator;
 use station::{Kind, Layout, MeshKind};
 
-const ROOMS: [Room; 5] = [
+pub const ROOMS: [Room; 5] = [
     Room::EXACT,
     Room::Short(1),
     Room::Beyond(1),

@@ -3,6 +3,7 @@
 use crate::case::{Case, Input, Origin, Room};
 use crate::raw::{RawCase, Task};
 use crate::record::{is_flagged, shape, BitWriter};
+use crate::tensor::{self, TensorCase};
 use generator::Generator;
 use station::{Kind, Layout, MeshKind};
 
@@ -150,6 +151,69 @@ pub fn raw_write(kind: Kind, random: &mut Generator) -> RawCase {
         kind,
         layout,
         task: Task::Write(list),
+        room: room(random),
+    }
+}
+
+/// Raw Type 6 numbers to be turned into tensor patches.
+pub fn raw_to_tensor(random: &mut Generator) -> TensorCase {
+    let mut components = layout(Kind::Type6, random).components;
+    let mask = if random.once_in(8) { u32::MAX } else { 3 };
+    let most = largest(width(random));
+    let mut list = Vec::new();
+    mesh(Kind::Type6, components, mask, random, |item, random| {
+        list.push(match item {
+            Item::Flag(flag) => flag,
+            Item::Coordinate | Item::Component => raw_number(random) as u32 & most,
+        });
+    });
+    if random.once_in(4) {
+        damage(&mut list, random, |random| random.bits() as u32);
+    }
+    if random.once_in(32) {
+        components = random.pick(&WRONG_COMPONENTS);
+    }
+    TensorCase {
+        components,
+        task: tensor::Task::Raw(list),
+        room: room(random),
+    }
+}
+
+/// Rows of Type 6 patches to be turned: one list in four has whole multiples of nine alone.
+pub fn rows_to_tensor(random: &mut Generator) -> TensorCase {
+    let mut components = layout(Kind::Type6, random).components;
+    let patches = if random.once_in(400) {
+        random.within(4, 60)
+    } else {
+        random.within(0, 3)
+    };
+    let is_whole = random.once_in(4);
+    let mut values: Vec<f64> = (0..patches * (24 + 4 * (8 + components)))
+        .map(|_| match is_whole {
+            true => 9.0 * (random.within(0, 200_000) as f64 - 100_000.0),
+            false => any_number(random),
+        })
+        .collect();
+    if random.once_in(4) {
+        damage(&mut values, random, any_number);
+    }
+    if random.once_in(32) {
+        components = random.pick(&WRONG_COMPONENTS);
+    }
+    TensorCase {
+        components,
+        task: tensor::Task::Rows(values),
+        room: room(random),
+    }
+}
+
+/// What a reader or builder of Type 6 writes, to be turned.
+pub fn read_to_tensor(random: &mut Generator) -> TensorCase {
+    let origin = random.pick(&[Origin::Bytes, Origin::List]);
+    TensorCase {
+        components: 0,
+        task: tensor::Task::Read(case(Kind::Type6, origin, random)),
         room: room(random),
     }
 }

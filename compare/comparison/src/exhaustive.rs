@@ -126,7 +126,7 @@ fn streams(kind: Kind, layout: Layout, bench: &mut Bench<'_>) {
 }
 
 /// Calls with every sequence of at most so many of the things.
-fn sequences<T: Copy>(of: &[T], longest: usize, mut call: impl FnMut(&[T])) {
+pub fn sequences<T: Copy>(of: &[T], longest: usize, mut call: impl FnMut(&[T])) {
     for length in 0..=longest as u32 {
         for mut number in 0..of.len().pow(length) {
             let sequence: Vec<T> = (0..length)

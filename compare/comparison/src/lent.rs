@@ -26,6 +26,16 @@ impl Place for f64 {
     }
 }
 
+impl Place for i64 {
+    fn filler(place: usize) -> Self {
+        (0xa5c3_96e1_0000_0000 ^ (place as u64).wrapping_mul(0x9e37_79b9_7f4a_7c15)) as i64
+    }
+
+    fn bits(self) -> u64 {
+        self as u64
+    }
+}
+
 impl Place for u32 {
     fn filler(place: usize) -> Self {
         0xa5c3_0000 ^ (place as u32).wrapping_mul(0x9e37_79b9)

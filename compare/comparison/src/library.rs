@@ -22,6 +22,20 @@ pub trait Library: Sync {
         l: Layout,
         out: &mut [u8],
     ) -> Result<usize, Refusal>;
+
+    fn coons_to_tensor_raw(
+        &self,
+        list: &[u32],
+        components: usize,
+        out: &mut [i64],
+    ) -> Result<usize, Refusal>;
+
+    fn coons_to_tensor(
+        &self,
+        values: &[f64],
+        components: usize,
+        out: &mut [f64],
+    ) -> Result<usize, Refusal>;
 }
 
 /// The proved library.
@@ -57,5 +71,23 @@ impl Library for Proved {
         out: &mut [u8],
     ) -> Result<usize, Refusal> {
         station::raw_write(kind, list, l, out)
+    }
+
+    fn coons_to_tensor_raw(
+        &self,
+        list: &[u32],
+        components: usize,
+        out: &mut [i64],
+    ) -> Result<usize, Refusal> {
+        station::coons_to_tensor_raw(list, components, out)
+    }
+
+    fn coons_to_tensor(
+        &self,
+        values: &[f64],
+        components: usize,
+        out: &mut [f64],
+    ) -> Result<usize, Refusal> {
+        station::coons_to_tensor(values, components, out)
     }
 }

@@ -1,4 +1,4 @@
-//! Holds the proved library against the unchanged original, case by case and number by number.
+//! Holds the proved library against the unchanged original, case by case and number by number; what the original doesn't have, against its rules.
 //!
 //! - `comparison quick`: the directed and exhaustive cases and a fixed count of random ones, by a fixed seed.
 //! - `comparison long [MINUTESm | CASES] [SEED]`: the same, and random cases for so many minutes, or so many of them.
@@ -19,6 +19,9 @@ mod report;
 mod reshape;
 mod run;
 mod shrink;
+mod surface;
+mod tensor;
+mod tensor_cases;
 #[cfg(test)]
 mod tests;
 
@@ -28,7 +31,7 @@ use std::process::ExitCode;
 use std::time::{Duration, Instant};
 
 const SEED: u64 = 0x4d53_4620_0002;
-const QUICK_CASES: u64 = 1_500_000;
+const QUICK_CASES: u64 = 1_750_000;
 const LONG_MINUTES: u64 = 10;
 
 /// What the command line asks for: how long to draw random cases, and from which seed.

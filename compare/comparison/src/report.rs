@@ -6,6 +6,7 @@ use crate::lent::Lent;
 use crate::library::Library;
 use crate::raw::{RawCase, RawLent, Task};
 use crate::shrink::shrink;
+use crate::tensor::{self, TensorCase, TensorLent};
 use station::{Kind, Reading};
 use std::fmt;
 
@@ -14,7 +15,7 @@ pub const KINDS: [Kind; 4] = [Kind::Type4, Kind::Type5, Kind::Type6, Kind::Type7
 /// So many disagreements of a function are shrunk, of which the smallest is printed; the others are only counted.
 const SHRUNK: u64 = 3;
 
-/// The functions that a line of the table counts, in the table's order. Each has a line for each of the four types.
+/// The functions that a line of the table counts, in the table's order.
 #[derive(Clone, Copy, Debug)]
 enum Group {
     ParsePorted,
@@ -23,15 +24,20 @@ enum Group {
     BuildPublished,
     RawRead,
     RawWrite,
+    RawToTensor,
+    ToTensor,
 }
 
-const GROUPS: [(Group, &str); 6] = [
-    (Group::ParsePorted, "parse"),
-    (Group::BuildPorted, "build"),
-    (Group::ParsePublished, "published parse"),
-    (Group::BuildPublished, "published build"),
-    (Group::RawRead, "raw read"),
-    (Group::RawWrite, "raw write"),
+/// Each with its name and the types that it has a line for.
+const GROUPS: [(Group, &str, &[Kind]); 8] = [
+    (Group::ParsePorted, "parse", &KINDS),
+    (Group::BuildPorted, "build", &KINDS),
+    (Group::ParsePublished, "published parse", &KINDS),
+    (Group::BuildPublished, "published build", &KINDS),
+    (Group::RawRead, "raw read", &KINDS),
+    (Group::RawWrite, "raw write", &KINDS),
+    (Group::RawToTensor, "raw to tensor", &[Kind::Type6]),
+    (Group::ToTensor, "to tensor", &[Kind::Type6]),
 ];
 
 fn line(group: Group, kind: Kind) -> usize {
@@ -130,10 +136,10 @@ impl fmt::Display for Report {
             )
         };
         let mut all = Tally::default();
-        for (group, name) in GROUPS {
-            for (kind, number) in KINDS.into_iter().zip(4..) {
+        for (group, name, kinds) in GROUPS {
+            for &kind in kinds {
                 let tally = &self.lines[line(group, kind)];
-                write(&format!("{name} type {number}"), tally)?;
+                write(&format!("{name} type {}", 4 + kind as usize), tally)?;
                 all.add(tally.clone());
             }
         }
@@ -154,6 +160,7 @@ pub struct Bench<'a> {
     library: &'a dyn Library,
     rows: Lent<f64>,
     raw: RawLent,
+    tensor: TensorLent,
     pub report: Report,
 }
 
@@ -163,6 +170,7 @@ impl<'a> Bench<'a> {
             library,
             rows: Lent::new(),
             raw: RawLent::new(),
+            tensor: TensorLent::new(),
             report: Report::new(),
         }
     }
@@ -213,6 +221,27 @@ impl<'a> Bench<'a> {
             Ok(agreed) => {
                 tally.numbers += agreed.numbers as u64;
                 tally.refused += u64::from(agreed.is_refused);
+            }
+            Err(fault) => tally.disagree(|| {
+                let (case, fault) = shrink(case.clone(), fault, |c| c.check(library, lent).err());
+                format!("Disagreement, {group:?}:\n{case}{fault}")
+            }),
+        }
+    }
+
+    pub fn tensor(&mut self, case: &TensorCase) {
+        let group = match case.task {
+            tensor::Task::Raw(_) => Group::RawToTensor,
+            tensor::Task::Rows(_) | tensor::Task::Read(_) => Group::ToTensor,
+        };
+        let (library, lent) = (self.library, &mut self.tensor);
+        let tally = &mut self.report.lines[line(group, Kind::Type6)];
+        tally.cases += 1;
+        match case.check(library, lent) {
+            Ok(agreed) => {
+                tally.records += agreed.answer.unwrap_or(0) as u64;
+                tally.numbers += agreed.numbers as u64;
+                tally.refused += u64::from(agreed.answer.is_err());
             }
             Err(fault) => tally.disagree(|| {
                 let (case, fault) = shrink(case.clone(), fault, |c| c.check(library, lent).err());

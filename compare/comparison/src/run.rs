@@ -3,7 +3,7 @@
 use crate::case::Origin;
 use crate::library::Library;
 use crate::report::{Bench, Report, KINDS};
-use crate::{directed, draw, exhaustive};
+use crate::{directed, draw, exhaustive, tensor_cases};
 use generator::Generator;
 use std::sync::atomic::{AtomicUsize, Ordering};
 use std::sync::Mutex;
@@ -35,6 +35,7 @@ impl Limit {
 pub fn run(library: &dyn Library, limit: Limit, seed: u64) -> Report {
     let mut jobs = directed::jobs();
     jobs.extend(exhaustive::jobs());
+    jobs.extend(tensor_cases::jobs());
     let next = AtomicUsize::new(0);
     let total = Mutex::new(Report::new());
     std::thread::scope(|scope| {
@@ -67,11 +68,16 @@ fn random_chunk(chunk: usize, seed: u64, bench: &mut Bench<'_>) {
     let mut random = Generator::new(mixed);
     let kind = KINDS[chunk % 4];
     for _ in 0..CHUNK {
-        match chunk / 4 % 6 {
+        match chunk / 4 % 7 {
             0..=2 => bench.mesh(&draw::case(kind, Origin::Bytes, &mut random)),
             3 | 4 => bench.mesh(&draw::case(kind, Origin::List, &mut random)),
-            _ if random.once_in(2) => bench.raw(&draw::raw_read(kind, &mut random)),
-            _ => bench.raw(&draw::raw_write(kind, &mut random)),
+            5 if random.once_in(2) => bench.raw(&draw::raw_read(kind, &mut random)),
+            5 => bench.raw(&draw::raw_write(kind, &mut random)),
+            _ => bench.tensor(&match random.within(0, 3) {
+                0 | 1 => draw::raw_to_tensor(&mut random),
+                2 => draw::rows_to_tensor(&mut random),
+                _ => draw::read_to_tensor(&mut random),
+            }),
         }
     }
 }

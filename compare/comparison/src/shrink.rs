@@ -81,13 +81,15 @@ fn parts(length: usize, size: usize) -> impl Iterator<Item = Range<usize>> {
     (0..length / size).map(move |i| length - (i + 1) * size..length - i * size)
 }
 
+/// Lower numbers, down to the least.
+pub fn lower(from: usize, least: usize) -> impl Iterator<Item = usize> {
+    [least, 8, from / 2, from.saturating_sub(1)]
+        .into_iter()
+        .filter(move |&to| to >= least && to < from)
+}
+
 /// Layouts with one number lower.
 pub fn smaller_layouts(l: Layout) -> impl Iterator<Item = Layout> {
-    let lower = |from: usize, least: usize| {
-        [least, 8, from / 2, from.saturating_sub(1)]
-            .into_iter()
-            .filter(move |&to| to >= least && to < from)
-    };
     let components = lower(l.components, 0).map(move |components| Layout { components, ..l });
     let coordinates = lower(l.coordinate, 1).map(move |coordinate| Layout { coordinate, ..l });
     let component = lower(l.component, 1).map(move |component| Layout { component, ..l });

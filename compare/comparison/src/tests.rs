@@ -6,9 +6,10 @@ use crate::draw;
 use crate::lent::Lent;
 use crate::library::{Library, Proved};
 use crate::raw::{RawCase, RawLent, Task};
-use crate::record::raw_reading;
+use crate::record::{mesh_flags, raw_reading, size};
 use crate::report::{Bench, KINDS};
 use crate::shrink::shrink;
+use crate::tensor::{self, TensorCase, TensorLent};
 use generator::Generator;
 use station::{Kind, Layout, MeshKind, Reading, Refusal};
 use std::collections::BTreeSet;
@@ -21,11 +22,17 @@ type Spoil<T> = fn(Answer, &mut [T]) -> Answer;
 /// A mesh function in place of the proved ones.
 type Mesh = dyn Fn(Reading, &Case, &mut [f64]) -> Answer + Sync;
 
+/// Functions in place of the two that turn patches.
+type RawToTensor = fn(&[u32], usize, &mut [i64]) -> Answer;
+type ToTensor = fn(&[f64], usize, &mut [f64]) -> Answer;
+
 /// The proved library with some of its answers replaced or spoilt.
 struct Wrong {
     mesh: Box<Mesh>,
     read: Spoil<u32>,
     write: Spoil<u8>,
+    raw_to_tensor: RawToTensor,
+    to_tensor: ToTensor,
 }
 
 impl Wrong {
@@ -34,6 +41,8 @@ impl Wrong {
             mesh: Box::new(mesh),
             read: |answer, _| answer,
             write: |answer, _| answer,
+            raw_to_tensor: station::coons_to_tensor_raw,
+            to_tensor: station::coons_to_tensor,
         }
     }
 
@@ -54,6 +63,20 @@ impl Wrong {
             ..Wrong::spoilt(|answer, _| answer)
         }
     }
+
+    fn raw_to_tensor(raw_to_tensor: RawToTensor) -> Self {
+        Wrong {
+            raw_to_tensor,
+            ..Wrong::spoilt(|answer, _| answer)
+        }
+    }
+
+    fn to_tensor(to_tensor: ToTensor) -> Self {
+        Wrong {
+            to_tensor,
+            ..Wrong::spoilt(|answer, _| answer)
+        }
+    }
 }
 
 impl Library for Wrong {
@@ -67,6 +90,14 @@ impl Library for Wrong {
 
     fn raw_write(&self, kind: Kind, list: &[u32], l: Layout, out: &mut [u8]) -> Answer {
         (self.write)(Proved.raw_write(kind, list, l, out), out)
+    }
+
+    fn coons_to_tensor_raw(&self, list: &[u32], components: usize, out: &mut [i64]) -> Answer {
+        (self.raw_to_tensor)(list, components, out)
+    }
+
+    fn coons_to_tensor(&self, values: &[f64], components: usize, out: &mut [f64]) -> Answer {
+        (self.to_tensor)(values, components, out)
     }
 }
 
@@ -120,8 +151,13 @@ fn the_proved_library_passes() {
             bench.raw(&draw::raw_write(kind, &mut random));
         }
     }
+    for _ in 0..500 {
+        bench.tensor(&draw::raw_to_tensor(&mut random));
+        bench.tensor(&draw::rows_to_tensor(&mut random));
+        bench.tensor(&draw::read_to_tensor(&mut random));
+    }
     assert_eq!(bench.report.disagreements(), 0, "{}", bench.report);
-    assert_eq!(bench.report.cases(), 12000);
+    assert_eq!(bench.report.cases(), 13500);
 }
 
 #[test]
@@ -343,6 +379,239 @@ fn a_wrong_fill_bit_and_a_byte_beyond_are_found() {
     }
 }
 
+/// The smallest case of patches to be turned that the library answers wrongly.
+fn found_tensor(drawn: fn(&mut Generator) -> TensorCase, wrong: &Wrong) -> (TensorCase, Fault) {
+    let mut random = Generator::new(7);
+    let mut lent = TensorLent::new();
+    for _ in 0..2000 {
+        let case = drawn(&mut random);
+        if let Err(fault) = case.check(wrong, &mut lent) {
+            return shrink(case, fault, |c| c.check(wrong, &mut lent).err());
+        }
+    }
+    panic!("nothing was found");
+}
+
+fn found_raw_to_tensor(wrong: RawToTensor) -> (TensorCase, Fault) {
+    found_tensor(draw::raw_to_tensor, &Wrong::raw_to_tensor(wrong))
+}
+
+fn found_to_tensor(wrong: ToTensor) -> (TensorCase, Fault) {
+    found_tensor(draw::rows_to_tensor, &Wrong::to_tensor(wrong))
+}
+
+/// How many numbers the list of a case to be turned has.
+fn turned_length(case: &TensorCase) -> usize {
+    match &case.task {
+        tensor::Task::Raw(list) => list.len(),
+        tensor::Task::Rows(values) => values.len(),
+        tensor::Task::Read(mesh) => length(mesh),
+    }
+}
+
+/// The raw answer with each patch of it spoilt, given its flag.
+fn raw_patches_spoilt(
+    list: &[u32],
+    components: usize,
+    out: &mut [i64],
+    spoil: fn(u32, &mut [i64]),
+) -> Answer {
+    let answer = Proved.coons_to_tensor_raw(list, components, out);
+    if answer.is_ok() {
+        let flags = mesh_flags(Kind::Type6, components, list);
+        for (flag, patch) in flags.into_iter().zip(out.chunks_mut(32 + 4 * components)) {
+            spoil(flag, patch);
+        }
+    }
+    answer
+}
+
+#[test]
+fn a_wrong_formula_for_raw_numbers_is_found_and_shrunk() {
+    // x of p11: plus p33, five times p01; then p21 before p22
+    let sign: RawToTensor =
+        |list, n, out| raw_patches_spoilt(list, n, out, |_, patch| patch[24] += 2 * patch[12] / 9);
+    let coefficient: RawToTensor =
+        |list, n, out| raw_patches_spoilt(list, n, out, |_, patch| patch[24] -= patch[2] / 9);
+    let order: RawToTensor =
+        |list, n, out| raw_patches_spoilt(list, n, out, |_, patch| patch[28..32].rotate_left(2));
+    for (wrong, point) in [(sign, 12), (coefficient, 12), (order, 14)] {
+        let (case, fault) = found_raw_to_tensor(wrong);
+        assert_eq!(turned_length(&case), 25, "{case}{fault}");
+        assert_eq!(case.components, 0, "{case}{fault}");
+        let place = format!("patch 0, point {point}, ");
+        assert!(fault.place.starts_with(&place), "{case}{fault}");
+    }
+}
+
+#[test]
+fn a_border_that_is_not_nine_times_is_found_and_shrunk() {
+    let (case, fault) = found_raw_to_tensor(|list, n, out| {
+        raw_patches_spoilt(list, n, out, |_, patch| {
+            patch[..24].iter_mut().for_each(|x| *x /= 9);
+        })
+    });
+    assert_eq!(turned_length(&case), 25, "{case}{fault}");
+    assert!(fault.place.starts_with("patch 0, point"), "{case}{fault}");
+}
+
+#[test]
+fn a_side_that_is_not_filled_in_is_found_and_shrunk() {
+    let (case, fault) = found_raw_to_tensor(|list, n, out| {
+        raw_patches_spoilt(list, n, out, |flag, patch| {
+            if flag > 0 {
+                patch[..8].fill(0);
+            }
+        })
+    });
+    assert_eq!(turned_length(&case), 25 + 17, "{case}{fault}");
+    assert!(fault.place.starts_with("patch 1, point"), "{case}{fault}");
+    // colours of a side that is taken over the other way round
+    let (case, fault) = found_raw_to_tensor(|list, n, out| {
+        raw_patches_spoilt(list, n, out, |flag, patch| {
+            if flag == 3 {
+                let colour = (patch.len() - 32) / 4;
+                patch[32..32 + 2 * colour].rotate_left(colour);
+            }
+        })
+    });
+    assert_eq!(turned_length(&case), 29 + 19, "{case}{fault}");
+    assert!(fault.place.starts_with("patch 1, colour"), "{case}{fault}");
+}
+
+#[test]
+fn a_flag_of_four_that_passes_is_found_and_shrunk() {
+    let (case, fault) = found_raw_to_tensor(|list, n, out| {
+        let mut low = list.to_vec();
+        let mut place = 0;
+        while n <= 32 && place < low.len() {
+            low[place] &= 3;
+            place += size(Kind::Type6, n, low[place]);
+        }
+        Proved.coons_to_tensor_raw(&low, n, out)
+    });
+    assert_eq!(fault.place, "the answer");
+    assert!(fault.expected.contains("Record"), "{case}{fault}");
+    assert!(turned_length(&case) <= 25 + 17, "{case}{fault}");
+}
+
+#[test]
+fn room_that_is_one_off_is_found() {
+    // asks for one place too many, and for one too few
+    let strict: RawToTensor = |list, n, out| {
+        let places = out.len().saturating_sub(1);
+        Proved.coons_to_tensor_raw(list, n, &mut out[..places])
+    };
+    let lax: RawToTensor = |list, n, out| {
+        let mut longer = [&*out, &[0]].concat();
+        let answer = Proved.coons_to_tensor_raw(list, n, &mut longer);
+        out.copy_from_slice(&longer[..out.len()]);
+        answer
+    };
+    for wrong in [strict, lax] {
+        let (case, fault) = found_raw_to_tensor(wrong);
+        assert_eq!(fault.place, "the answer", "{case}{fault}");
+        assert!(turned_length(&case) <= 25, "{case}{fault}");
+    }
+    let strict: ToTensor = |values, n, out| {
+        let places = out.len().saturating_sub(1);
+        Proved.coons_to_tensor(values, n, &mut out[..places])
+    };
+    let (case, fault) = found_to_tensor(strict);
+    assert_eq!(turned_length(&case), 56, "{case}{fault}");
+    assert!(fault.ours.contains("Room"), "{case}{fault}");
+}
+
+#[test]
+fn a_patch_written_before_a_refusal_is_found() {
+    let (case, fault) = found_raw_to_tensor(|list, n, out| {
+        let answer = Proved.coons_to_tensor_raw(list, n, out);
+        if answer == Err(Refusal::Record) {
+            let first = list.len().min(size(Kind::Type6, n, 0));
+            let _ = Proved.coons_to_tensor_raw(&list[..first], n, out);
+        }
+        answer
+    });
+    assert!(fault.place.starts_with("place 0"), "{case}{fault}");
+    assert_eq!(turned_length(&case), 26, "{case}{fault}");
+}
+
+/// The answer for rows with each inner x of p11 worked out otherwise, from its eight numbers.
+fn rows_otherwise(
+    values: &[f64],
+    components: usize,
+    out: &mut [f64],
+    formula: fn([f64; 8]) -> f64,
+) -> Answer {
+    let answer = Proved.coons_to_tensor(values, components, out);
+    if answer.is_ok() {
+        for patch in out.chunks_exact_mut(32 + 4 * (8 + components)) {
+            patch[24] = formula([0, 1, 11, 3, 9, 8, 4, 6].map(|point| patch[2 * point]));
+        }
+    }
+    answer
+}
+
+#[test]
+fn another_order_of_rounding_is_found_and_shrunk() {
+    let fused: ToTensor = |values, n, out| {
+        rows_otherwise(values, n, out, |[a, b, c, d, e, f, g, h]| {
+            let first = 6.0f64.mul_add(b + c, -4.0 * a);
+            (((first - 2.0 * (d + e)) + 3.0 * (f + g)) - h) / 9.0
+        })
+    };
+    let ordered: ToTensor = |values, n, out| {
+        rows_otherwise(values, n, out, |[a, b, c, d, e, f, g, h]| {
+            (((-4.0 * a + 6.0 * (b + c)) + 3.0 * (f + g)) - 2.0 * (d + e) - h) / 9.0
+        })
+    };
+    for wrong in [fused, ordered] {
+        let (case, fault) = found_to_tensor(wrong);
+        assert_eq!(fault.place, "patch 0, point 12, x", "{case}{fault}");
+        assert_eq!(turned_length(&case), 56, "{case}{fault}");
+    }
+}
+
+#[test]
+fn the_payload_of_a_nan_counts_where_it_is_copied() {
+    let (case, fault) = found_to_tensor(|values, n, out| {
+        let answer = Proved.coons_to_tensor(values, n, out);
+        change_nans(answer, out)
+    });
+    assert!(fault.expected.starts_with("7ff") || fault.expected.starts_with("fff"));
+    assert_eq!(turned_length(&case), 56, "{case}{fault}");
+    // an inner coordinate is computed
+    let computed = Wrong::to_tensor(|values, n, out| {
+        let answer = Proved.coons_to_tensor(values, n, out);
+        if answer.is_ok() {
+            for patch in out.chunks_exact_mut(32 + 4 * (8 + n)) {
+                change_nans(answer, &mut patch[24..32])?;
+            }
+        }
+        answer
+    });
+    let mut random = Generator::new(8);
+    for _ in 0..500 {
+        let case = draw::rows_to_tensor(&mut random);
+        assert!(case.check(&computed, &mut TensorLent::new()).is_ok());
+    }
+}
+
+#[test]
+fn a_shared_side_of_a_mesh_that_was_read_is_looked_at() {
+    // a reader whose second patch begins elsewhere than the first one's side: the turned patches show it
+    let wrong = Wrong::mesh(|reading, case, out| {
+        let answer = Proved.mesh(reading, case, out);
+        if answer.is_ok_and(|count| count > 1) {
+            turn_last_bit(&mut out[case.stride()]);
+        }
+        answer
+    });
+    let (case, fault) = found_tensor(draw::read_to_tensor, &wrong);
+    assert_eq!(fault.place, "patch 1, point 0, x, taken over");
+    assert!(turned_length(&case) <= 25 + 17, "{case}{fault}");
+}
+
 #[test]
 fn the_report_tells_of_a_disagreement() {
     let wrong = Wrong::spoilt(|answer, _| answer.map(|count| count + 1));
@@ -355,6 +624,28 @@ fn the_report_tells_of_a_disagreement() {
     let text = bench.report.to_string();
     assert!(text.contains("list:   [], 0 in all"), "{text}");
     assert!(text.contains("ours:     accepted, 1"), "{text}");
+}
+
+#[test]
+fn the_cases_to_be_turned_meet_every_count_and_refusal() {
+    let mut random = Generator::new(9);
+    let mut lent = TensorLent::new();
+    for drawn in [draw::raw_to_tensor, draw::rows_to_tensor] {
+        let mut counts = BTreeSet::new();
+        let mut refusals = BTreeSet::new();
+        for turn in 0..10_000 {
+            let case = drawn(&mut random);
+            if turned_length(&case) > 0 {
+                counts.insert(case.components);
+            }
+            if turn < 500 {
+                let agreed = case.check(&Proved, &mut lent).expect("no fault");
+                refusals.extend(agreed.answer.err().map(Refusal::number));
+            }
+        }
+        assert!((0..=33).all(|n| counts.contains(&n)), "{counts:?}");
+        assert!(refusals.iter().eq(&[2, 4, 5]), "{refusals:?}");
+    }
 }
 
 #[test]
