@@ -1,9 +1,10 @@
-//! Times the proved library against the original, on the same input in one run. Figures are ratios of medians of
-//! interleaved runs: under 1 is faster than the original. Outputs are touched once before.
+//! Times the proved library against the original, or a plain version where the original has none, on the same input in one run. Figures are ratios
+//! of medians of interleaved runs: under 1 is faster than the other. Outputs are touched once before.
 
 mod meshes;
 mod raw;
 mod stream;
+mod tensor;
 mod timing;
 
 fn main() {
@@ -12,10 +13,12 @@ fn main() {
         None => {
             meshes::print();
             raw::print();
+            tensor::print();
         }
         Some("meshes") => meshes::print(),
         Some("raw") => raw::print(),
+        Some("tensor") => tensor::print(),
         Some("input") => meshes::print_input(&words[1..]),
-        Some(other) => panic!("benchmark [meshes|raw], not {other}"),
+        Some(other) => panic!("benchmark [meshes|raw|tensor], not {other}"),
     }
 }
