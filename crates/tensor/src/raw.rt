@@ -69,7 +69,8 @@ fn copy(from: &[u32], start: usize, count: usize, to: &mut [u32], at: usize) -> 
     at + count
 }
 
-// The patch of the record at an index.
+// The patch of the record at an index. Its first side is the record's own for flag 0. Flag 1 takes over the points 3 to 6 of the patch before, flag 2 its
+// points 6 to 9, flag 3 its points 9, 10, 11 and 0, of which those from 4 on stand at own.
 fn take_patch(before: Coons, numbers: &[u32], n: usize, i: usize) -> Coons
     requires { ⌜ (n ≤ mostComponents) × (length (now numbers) ≤ mostNumbers) × (getD (now numbers) i 0 ≤ 3) × (i + (1 + sizeAfter 8 n (getD (now numbers) i 0)) ≤ length (now numbers)) × (1 ≤ getD (now numbers) i 0 → Within n (now numbers) before) ⌝ }
     ensures { λ r. ⌜ Takes n (now (numbers .entry)) before i r ⌝ }
