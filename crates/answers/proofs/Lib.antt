@@ -1,2 +1,3 @@
 pub mod Outcomes
 pub mod OneOutcome
+pub mod Asking

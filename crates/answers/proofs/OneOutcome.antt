@@ -1,6 +1,6 @@
 -- An outcome allows one answer and one content of the output only, and a call that answered no refusal wrote. Assumes nothing.
 use Prim.Native.Nat.{ℕ, _-_}
-use mathlib.Core.Path.{_≡_, refl, sym, ap, _∙_}
+use mathlib.Core.Path.{_≡_, refl, sym, ap, ap₂, _∙_}
 use mathlib.Core.List.{List, [], _∷_, _++_}
 use lib.ListN.{length, getD, drop}
 use native.Mathlib.Omega.{arith}
@@ -9,18 +9,18 @@ use Rattle.answers.specs.declared.Refusal.the-variants.{Layout, Componen
 use Rattle.answers.specs.declared.Answer.{Answer}
 use Rattle.answers.specs.declared.Answer.the-variants.{Wrote, Refused}
 use Rattle.answers.specs.declared.Told.{Told}
-use Rattle.answers.specs.Outcome.{numberOf, told, Outcome, refused, wrote, Tells, Done}
+use Rattle.answers.specs.Outcome.{numberOf, neededBy, told, Outcome, refused, wrote, Tells, Done}
 
--- the refusal that a number stands for
-refusalOf : ℕ → Refusal
-refusalOf n = getD (Layout ∷ Components ∷ Length ∷ Room ∷ Record ∷ Thin ∷ []) (n - 1) File
+-- the refusal that its number, and what it needs, stand for
+refusalOf : ℕ → ℕ → Refusal
+refusalOf n needed = getD (Layout ∷ Components ∷ Length ∷ Room needed ∷ Record ∷ Thin ∷ []) (n - 1) File
 
-back : (r : Refusal) → refusalOf (numberOf r) ≡ r
+back : (r : Refusal) → refusalOf (numberOf r) (neededBy r) ≡ r
 unfolding refusalOf
 back Layout = refl
 back Components = refl
 back Length = refl
-back Room = refl
+back (Room needed) = refl
 back Record = refl
 back Thin = refl
 back File = refl
@@ -30,21 +30,21 @@ not-zero : (r : Refusal) → numberOf r ≡ 0 → ⊥
 not-zero Layout e = omega arith
 not-zero Components e = omega arith
 not-zero Length e = omega arith
-not-zero Room e = omega arith
+not-zero (Room needed) e = omega arith
 not-zero Record e = omega arith
 not-zero Thin e = omega arith
 not-zero File e = omega arith
 
--- no two refusals share a number
-pub one-refusal : (r r′ : Refusal) → numberOf r ≡ numberOf r′ → r ≡ r′
-one-refusal r r′ e = sym (back r) ∙ ap refusalOf e ∙ back r′
+-- no two refusals share a number, and ROOM with another need tells another count
+pub one-refusal : (r r′ : Refusal) → numberOf r ≡ numberOf r′ → neededBy r ≡ neededBy r′ → r ≡ r′
+one-refusal r r′ e f = sym (back r) ∙ ap₂ refusalOf e f ∙ back r′
 
 -- no two answers share their numbers
 pub one-answer : (a a′ : Answer) → told a ≡ told a′ → a ≡ a′
 one-answer (Wrote n) (Wrote m) e = ap Wrote (ap (λ (t : Told). t .count) e)
 one-answer (Wrote n) (Refused r) e = absurd (not-zero r (sym (ap (λ (t : Told). t .refused) e)))
 one-answer (Refused r) (Wrote n) e = absurd (not-zero r (ap (λ (t : Told). t .refused) e))
-one-answer (Refused r) (Refused r′) e = ap Refused (one-refusal r r′ (ap (λ (t : Told). t .refused) e))
+one-answer (Refused r) (Refused r′) e = ap Refused (one-refusal r r′ (ap (λ (t : Told). t .refused) e) (ap (λ (t : Told). t .count) e))
 
 -- of an outcome there is one pair of numbers, one answer, and one content
 pub one-told : {A : Type 0} (o : Outcome A) (entry : List A) (t t′ : Told) (m m′ : List A) → Tells o entry t m → Tells o entry t′ m′ → (t ≡ t′) × (m ≡ m′)

@@ -1,6 +1,6 @@
 -- How a call that writes ends: refused, without room, or with its output written; and what it has passed by then. Assumes nothing.
-use Prim.Native.Nat.{ℕ, _<_}
-use mathlib.Core.Path.{_≡_, refl, _∙_}
+use Prim.Native.Nat.{ℕ, _*_, _<_}
+use mathlib.Core.Path.{_≡_, refl, sym, ap, _∙_}
 use mathlib.Core.Bool.{Bool, true, false}
 use mathlib.Core.List.{List}
 use native.Mathlib.Nat.{zero-add}
@@ -26,9 +26,14 @@ module _ {A : Type 0} where
   was-refused = record { answered = refl; held = refl }
 
   pub no-room : (count : ℕ) (xs : List A) {size : ℕ} {entry : List A} → length xs ≡ size → length entry < size
-      → Done (fitted count xs (length entry)) entry (Refused Room) entry
+      → Done (fitted count xs (length entry)) entry (Refused (Room size)) entry
   unfolding fitted
-  no-room count xs e h = simp (lt-ltb _ _ (rw (← e) at h)) was-refused
+  no-room count xs e h = rw e (simp (lt-ltb _ _ h) was-refused)
+
+  -- as many things as were counted, each of a size
+  pub no-room-for : (count : ℕ) (xs : List A) (size : ℕ) {c : ℕ} {entry : List A} → length xs ≡ count * size → c ≡ count → length entry < c * size
+      → Done (fitted count xs (length entry)) entry (Refused (Room (c * size))) entry
+  no-room-for count xs size e f = no-room count xs (e ∙ ap (λ (k : ℕ). k * size) (sym f))
 
   pub all-written : {count c : ℕ} {xs entry exit : List A} {p : ℕ} → c ≡ count → Written entry exit 0 xs p
       → Done (fitted count xs (length entry)) entry (Wrote c) exit

@@ -16,15 +16,25 @@ abbrev pub numberOf : Refusal → ℕ
 numberOf Layout = 1
 numberOf Components = 2
 numberOf Length = 3
-numberOf Room = 4
+numberOf (Room needed) = 4
 numberOf Record = 5
 numberOf Thin = 6
 numberOf File = 7
 
+-- ROOM tells how many places the whole answer needs; no other refusal tells a count
+abbrev pub neededBy : Refusal → ℕ
+neededBy Layout = 0
+neededBy Components = 0
+neededBy Length = 0
+neededBy (Room needed) = needed
+neededBy Record = 0
+neededBy Thin = 0
+neededBy File = 0
+
 -- an accepted call answers how much it wrote, a refusal its number
 abbrev pub told : Answer → Told
 told (Wrote n) = record { refused = 0; count = n }
-told (Refused r) = record { refused = numberOf r; count = 0 }
+told (Refused r) = record { refused = numberOf r; count = neededBy r }
 
 -- a refusal; or so many things, which are these elements
 pub data Outcome (A : Type 0) : Type 0 where
@@ -36,9 +46,9 @@ module _ {A : Type 0} where
   abbrev pub refuseIf : Bool → Refusal → Outcome A → Outcome A
   refuseIf b r o = cond b (refused r) o
 
-  -- ROOM exactly when the elements need more places than the output has
+  -- ROOM exactly when the elements need more places than the output has, with the number that they need
   unfoldable pub fitted : ℕ → List A → ℕ → Outcome A
-  fitted count xs room = refuseIf (ltb room (length xs)) Room (wrote count xs)
+  fitted count xs room = refuseIf (ltb room (length xs)) (Room (length xs)) (wrote count xs)
 
   -- the one answer, by its numbers
   abbrev pub tells : Outcome A → Told

@@ -36,19 +36,19 @@ module _ (vs : List Float) (n : ℕ) where
       let long = length-patchMesh asListed 2 (8 + n) n (reads-listed .point-sized) (reads-listed .colour-sized n) in
       long listSides 12 (sides-fit .2) vs ∙ ap (λ (k : ℕ). k * (16 * 2 + 4 * (8 + n))) list-counts-equal ∙ sym (long sides 12 (sides-fit .1) vs)
 
-  told-alike : (a b c : Bool) (k m : ℕ) (xs ys : List Float) → k ≡ m
-      → tells (refuseIf a Components (refuseIf b Length (refuseIf c Room (Outcome.wrote k xs)))) ≡ tells (refuseIf a Components (refuseIf b Length (refuseIf c Room (Outcome.wrote m ys))))
-  told-alike true b c k m xs ys e = refl
-  told-alike false true c k m xs ys e = refl
-  told-alike false false true k m xs ys e = refl
-  told-alike false false false k m xs ys e = ap (λ (j : ℕ). told (Wrote j)) e
+  told-alike : (a b c : Bool) (needed k m : ℕ) (xs ys : List Float) → k ≡ m
+      → tells (refuseIf a Components (refuseIf b Length (refuseIf c (Room needed) (Outcome.wrote k xs)))) ≡ tells (refuseIf a Components (refuseIf b Length (refuseIf c (Room needed) (Outcome.wrote m ys))))
+  told-alike true b c needed k m xs ys e = refl
+  told-alike false true c needed k m xs ys e = refl
+  told-alike false false true needed k m xs ys e = refl
+  told-alike false false false needed k m xs ys e = ap (λ (j : ℕ). told (Wrote j)) e
 
   -- so both readings of the Type 7 list answer every call alike
   pub type7-lists-tell-alike : (room : ℕ) → tells (build7 listSides vs n room) ≡ tells (build7 sides vs n room)
   unfolding built fitted
   type7-lists-tell-alike room =
       rw list-lengths-equal
-      (told-alike (ltb mostComponents n) (ltb mostNumbers (length vs)) (ltb room (length (patchMesh sides 12 asListed n vs .numbers))) _ _ _ _ list-counts-equal)
+      (told-alike (ltb mostComponents n) (ltb mostNumbers (length vs)) (ltb room (length (patchMesh sides 12 asListed n vs .numbers))) _ _ _ _ _ list-counts-equal)
 
 -- where every flag is 0, no side is taken over
 new-alike : {P C : Type 0} (T U : Table) (b : Option (Patch P C)) (qs : List (Piece P C)) → All (λ (q : Piece P C). q .flag ≡ 0) qs

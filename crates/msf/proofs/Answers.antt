@@ -43,7 +43,7 @@ pub refusal-small : (r : Refusal) → numberOf r < 1000
 refusal-small Layout = omega arith
 refusal-small Components = omega arith
 refusal-small Length = omega arith
-refusal-small Room = omega arith
+refusal-small (Room needed) = omega arith
 refusal-small Record = omega arith
 refusal-small Thin = omega arith
 refusal-small File = omega arith
@@ -125,7 +125,7 @@ parsed-sized m mesh s stride {count} {xs} h e =
     let layout = passed (not (layoutReadable (m .coord) (m .comp) (m .flag) (length (m .entries)))) Layout _ e in
     let few = passed (ltb mostComponents (m .n)) Components _ (layout .1) in
     let short = passed (ltb mostBytes (length s)) Length _ (few .1) in
-    let room = passed (ltb mostAnswer (length ys)) Room _ (short .1) in
+    let room = passed (ltb mostAnswer (length ys)) (Room (length ys)) _ (short .1) in
     let same : ys ≡ xs = cc (room .1) in
     let counts : M .count ≡ count = cc (room .1) in
     record {

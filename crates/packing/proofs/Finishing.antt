@@ -40,9 +40,10 @@ module _ (o : Option (List ℕ)) where
   not-accepted entry e = rw e was-refused
 
   module _ (bits : List ℕ) (e : o ≡ some bits) where
-    pub without-room : (entry : List ℕ) → length entry < byteCount (length bits) → Done (inBytes o (length entry)) entry (Refused Room) entry
+    pub without-room : (entry : List ℕ) {size : ℕ} → byteCount (length bits) ≡ size → length entry < size
+        → Done (inBytes o (length entry)) entry (Refused (Room size)) entry
     unfolding inBytes
-    without-room entry h = rw e (no-room (length (bytes bits)) (bytes bits) (length-bytes bits) h)
+    without-room entry z h = rw e (no-room (length (bytes bits)) (bytes bits) (length-bytes bits ∙ z) h)
 
     pub has-room : (room : ℕ) → byteCount (length bits) ≤ room → Roomy o room
     unfolding Roomy

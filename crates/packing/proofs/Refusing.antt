@@ -34,7 +34,7 @@ in-bytes-some : (o : Option (List ℕ)) (room k : ℕ) (bs : List ℕ) → inByt
 unfolding inBytes fitted
 in-bytes-some none room k bs e = absurd (let z : _≡_ {A = ℕ} 0 1 = cc in omega arith)
 in-bytes-some (some bits) room k bs e =
-    let p = passed (ltb room (length (bytes bits))) Room (wrote (length (bytes bits)) (bytes bits)) e in
+    let p = passed (ltb room (length (bytes bits))) (Room (length (bytes bits))) (wrote (length (bytes bits)) (bytes bits)) e in
     let q = p .1 in
     (bits, refl, cc, cc)
 

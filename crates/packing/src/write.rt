@@ -54,8 +54,9 @@ pub fn pack(numbers: &[u32], mesh: Mesh, out: &mut [u8]) -> Answer
     let Measured::Bits(total) = measured else {
         return Answer::Refused(Refusal::Record);
     };
-    if out.len() < (total + 7) / 8 {
-        return Answer::Refused(Refusal::Room);
+    let needed = (total + 7) / 8;
+    if out.len() < needed {
+        return Answer::Refused(Refusal::Room(needed));
     }
     fill(numbers, mesh, out)
 }

@@ -198,9 +198,9 @@ pub fn patches(
 {
     let count = count_patches(data, values, records);
     let n = records.layout.n;
-    let size = (4 + records.own) * 2 + 4 * (8 + n);
-    if count * size > out.len() {
-        return Answer::Refused(Refusal::Room);
+    let needed = count * ((4 + records.own) * 2 + 4 * (8 + n));
+    if out.len() < needed {
+        return Answer::Refused(Refusal::Room(needed));
     }
     write_patches(data, values, records, ranges, sides, out);
     Answer::Wrote(count)

@@ -281,7 +281,7 @@ fn raw_read(
     };
     let count = count_numbers(data, mesh);
     if out.len() < count {
-        return Answer::Refused(Refusal::Room);
+        return Answer::Refused(Refusal::Room(count));
     }
     Answer::Wrote(write_numbers(data, mesh, count, out))
 }

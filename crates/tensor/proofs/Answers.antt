@@ -1,9 +1,9 @@
 -- The answers of the public functions, for any way of turning. Assumes nothing.
 use Prim.Native.Nat.{ℕ, _+_, _*_, _/_, _≤_, _<_}
-use mathlib.Core.Path.{_≡_, sym, ap₂, _∙_}
+use mathlib.Core.Path.{_≡_, sym, ap, _∙_}
 use mathlib.Core.Bool.{Bool, true, false}
 use mathlib.Core.List.{List}
-use native.Mathlib.Nat.{div-lt-iff-lt-mul, le-div-iff-mul-le}
+use native.Mathlib.Nat.{mul-le-mul}
 use native.Mathlib.Omega.{arith}
 use borrow.Author.Tests.{lt-ltb, le-ltb, eq-eqb, ne-eqb}
 use lib.Dec.{eqb}
@@ -14,7 +14,7 @@ use Rattle.answers.specs.declared.Refusal.the-variants.{Components, Length, Rec
 use Rattle.answers.specs.declared.Answer.the-variants.{Wrote, Refused}
 use Rattle.answers.specs.Limits.{mostComponents, mostNumbers}
 use Rattle.answers.specs.Outcome.{Done}
-use Rattle.answers.proofs.Outcomes.{was-refused, no-room, all-written}
+use Rattle.answers.proofs.Outcomes.{was-refused, no-room-for, all-written}
 use Rattle.rules.specs.Patches.{Patch}
 use Rattle.rules.proofs.Meshes.{Numbered}
 use Rattle.tensor.specs.Turning.{Turning, tensorPatch, numbersOf}
@@ -28,8 +28,9 @@ some-left rest h = ne-eqb rest 0 (λ e. omega arith)
 pub none-left : (rest : ℕ) → rest ≤ 0 → eqb rest 0 ≡ true
 none-left rest h = eq-eqb rest 0 (omega arith)
 
-pub has-room : (row room count : ℕ) → 0 < row → count ≤ room / row → count * row ≤ room
-has-room row room count h f = le-div-iff-mul-le {k = row} h .0 f
+-- what no more patches than numbers need, at 32 components
+pub few-places : (count row : ℕ) → count ≤ mostNumbers → row ≤ 192 → count * row ≤ mostNumbers * 192
+few-places count row h g = mul-le-mul h g
 
 module _ {A B : Type 0} (T : Turning A B) (n size : ℕ) (whole : Bool) (ps : List (Patch (List A) (List A))) (l : List B) where
   pub many-components : mostComponents < n → Done (turned T n size whole ps (length l)) l (Refused Components) l
@@ -49,13 +50,11 @@ module _ {A B : Type 0} (T : Turning A B) (n size : ℕ) (whole : Bool) (ps : Li
       module _ (is-whole : whole ≡ true) where
         -- m numbers to a colour, and row to a patch
         pub small-output : (m row : ℕ) {count : ℕ} → row ≡ 32 + 4 * m → All (Numbered 12 4 m) ps → count ≡ length ps
-            → length l / row < count → Done (turned T n size whole ps (length l)) l (Refused Room) l
+            → length l < count * row → Done (turned T n size whole ps (length l)) l (Refused (Room (count * row))) l
         unfolding turned
-        small-output m row {count} r all e h =
-            let rows : length (flat (λ p. numbersOf (tensorPatch T p)) ps) ≡ count * row =
-            length-rows T m ps all ∙ ap₂ (λ (i j : ℕ). i * j) (sym e) (sym r) in
+        small-output m row r all e h =
             simp (le-ltb _ _ few, le-ltb _ _ short, is-whole)
-            (no-room (length ps) (flat (λ p. numbersOf (tensorPatch T p)) ps) rows (div-lt-iff-lt-mul {k = row} (omega arith) .0 h))
+            (no-room-for (length ps) (flat (λ p. numbersOf (tensorPatch T p)) ps) row (length-rows T m ps all ∙ ap (λ (k : ℕ). length ps * k) (sym r)) e h)
 
         pub wrote-all : {count : ℕ} {o : List B} {p : ℕ} → count ≡ length ps → Written l o 0 (flat (λ p. numbersOf (tensorPatch T p)) ps) p
             → Done (turned T n size whole ps (length l)) l (Wrote count) o

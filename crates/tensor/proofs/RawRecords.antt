@@ -82,7 +82,7 @@ module _ {B : Type 0} where
 
   fitted-otherwise : (count : ℕ) (xs : List B) (room : ℕ) → tells (fitted count xs room) .refused ≡ 5 → ⊥
   unfolding fitted
-  fitted-otherwise count xs room = otherwise (ltb room (length xs)) Room (wrote count xs) (λ z. omega arith) (λ z. omega arith)
+  fitted-otherwise count xs room = otherwise (ltb room (length xs)) (Room (length xs)) (wrote count xs) (λ z. omega arith) (λ z. omega arith)
 
   pub whole-accepted : {A : Type 0} (T : Turning A B) (n size : ℕ) (ps : List (Patch (List A) (List A))) (room : ℕ)
       → turned T n size true ps room ≡ refused Record → ⊥

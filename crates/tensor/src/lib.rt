@@ -24,8 +24,9 @@ pub fn coons_to_tensor_raw(numbers: &[u32], n: usize, out: &mut [i64]) -> Answer
     let Counted::Patches(count) = counted else {
         return Answer::Refused(Refusal::Record);
     };
-    if out.len() / (32 + 4 * n) < count {
-        return Answer::Refused(Refusal::Room);
+    let needed = count * (32 + 4 * n);
+    if out.len() < needed {
+        return Answer::Refused(Refusal::Room(needed));
     }
     raw::write_patches(numbers, n, out);
     Answer::Wrote(count)
@@ -46,8 +47,9 @@ pub fn coons_to_tensor(values: &[f64], n: usize, out: &mut [f64]) -> Answer
         return Answer::Refused(Refusal::Record);
     }
     let count = values.len() / size;
-    if out.len() / (size + 8) < count {
-        return Answer::Refused(Refusal::Room);
+    let needed = count * (size + 8);
+    if out.len() < needed {
+        return Answer::Refused(Refusal::Room(needed));
     }
     float::write_patches(values, n, count, out);
     Answer::Wrote(count)

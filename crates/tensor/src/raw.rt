@@ -12,7 +12,7 @@ ghost use Rattle.rules.specs.Meshes.{groups, sizeAfter};
 ghost use Rattle.tensor.specs.Formulas.{ninefold};
 ghost use Rattle.tensor.specs.Turning.{raw, tensorPatch, numbersOf};
 ghost use Rattle.tensor.specs.Outcomes.{wholeRecords};
-ghost use Rattle.tensor.specs.Inner.Standing.{patchIn, Within, Takes, patchesOf, countOf};
+ghost use Rattle.tensor.specs.Inner.Standing.{patchIn, Within, Takes, patchesOf, countOf, FewPatches};
 ghost use Rattle.tensor.specs.Inner.Placing.{spaced, innerAlong};
 use records::shape::Kind;
 use records::shape::Shape;
@@ -37,6 +37,7 @@ pub enum Counted {
 pub fn count_patches(numbers: &[u32], n: usize) -> Counted
     requires { ⌜ (n ≤ mostComponents) × (length (now numbers) ≤ mostNumbers) ⌝ }
     ensures { λ r. ⌜ r ≡ countOf (wholeRecords (length (now (numbers .entry))) n false (now (numbers .entry))) (length (patchesOf n (now (numbers .entry)))) ⌝ }
+    ensures { λ r. ⌜ FewPatches (length (now (numbers .entry))) r ⌝ }
 {
     let mut count: usize = 0;
     let mut i: usize = 0;

@@ -7,9 +7,13 @@ use native.Mathlib.Omega.{arith}
 use native.Mathlib.Nat.{div-mul-le-self}
 use lib.ListN.{length}
 use lib.Ieee.{Float}
+use Rattle.lists.specs.Lists.{flat}
 use Rattle.answers.specs.declared.Told.{Told}
 use Rattle.answers.specs.Limits.{mostComponents, mostBytes, mostNumbers}
-use Rattle.answers.specs.Outcome.{Outcome, Tells}
+use Rattle.answers.specs.declared.Refusal.the-variants.{Room}
+use Rattle.answers.specs.declared.Answer.the-variants.{Refused}
+use Rattle.answers.specs.Outcome.{Outcome, Tells, Done}
+use Rattle.answers.proofs.Outcomes.{no-room-for}
 use Rattle.decode.specs.Decode.{Ranges, ranges}
 use Rattle.records.specs.declared.layout.FlagWidth.{FlagWidth}
 use Rattle.records.specs.declared.layout.FlagWidth.the-variants.{Absent, Bits}
@@ -19,7 +23,7 @@ use Rattle.records.proofs.Layouts.{Widths, widths-readable}
 use Rattle.rows.specs.declared.Layout.{Layout}
 use Rattle.rows.specs.Inner.Layouts.{numbersOf, flagIn, rangeList, heldRanges}
 use Rattle.rows.proofs.Held.{held-ranges}
-use Rattle.rules.specs.Triangles.{triangleBefore, triangles}
+use Rattle.rules.specs.Triangles.{Tri, triangleBefore, triangles, corners}
 use Rattle.rules.specs.Lattice.{lattice}
 use Rattle.rules.specs.Meshes.{Finished, finished, type4Mesh, type5Mesh}
 use Rattle.meshes.specs.Outcomes.{fittedMesh, Stream, rawOf, parse4, parse5, build4, build5}
@@ -28,6 +32,8 @@ use Rattle.meshes.proofs.Ranges.{type4-alike, type5-alike}
 use Rattle.meshes.proofs.TriangleMeshes.{mesh-of-type4, mesh-of-type5, mesh-of-list4, mesh-of-list5}
 use Rattle.triangles.specs.declared.vertices.Vertices.{Vertices}
 use Rattle.triangles.specs.Inner.Vertices.{verticesIn, VerticesThere, flagOfVertex, rowOfVertex, ruleOf, trianglesIn}
+use Rattle.triangles.proofs.Rows.{length-in}
+use Rattle.triangles.proofs.Writing.{length-mesh}
 
 -- ---- vertices
 
@@ -74,6 +80,14 @@ there-list s vs flag n few short =
 pub layout-widths : (flag : FlagWidth) (coord comp entries : ℕ) → layoutReadable coord comp flag entries ≡ true → Widths (firstWidth flag coord) coord comp
 unfolding layoutReadable
 layout-widths flag coord comp entries e = widths-readable (firstWidth flag coord) coord comp ((simp and-eq-true-iff at e) .0)
+
+-- ---- no room for so many triangles, of three rows each
+
+pub no-room-for-triangles : (v : Vertices) (s : List ℕ) (vs : List Float) (R : Ranges) (ts : List Tri) {c : ℕ} (entry : List Float) → c ≡ length ts
+    → length entry < c * (3 * (v .layout .n + 10))
+    → Done (fittedMesh (finished ts (rowOfVertex v s vs R)) (length entry)) entry (Refused (Room (c * (3 * (v .layout .n + 10))))) entry
+no-room-for-triangles v s vs R ts entry =
+    no-room-for (length ts) (flat (corners (rowOfVertex v s vs R)) ts) (3 * (v .layout .n + 10)) (length-mesh (rowOfVertex v s vs R) (v .layout .n + 10) (length-in v s vs R) ts)
 
 -- ---- what was found and written is what the outcome says
 

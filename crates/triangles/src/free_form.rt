@@ -155,8 +155,9 @@ pub fn free_form(
     ensures { λ r. ⌜ Done (fittedMesh (finished (trianglesIn «last_three» vertices (now («data» .entry)) (now (values .entry))) (rowOfVertex vertices (now («data» .entry)) (now (values .entry)) (heldRanges (now (ranges .entry))))) (length (now (out .entry)))) (now (out .entry)) r (now (out .exit)) ⌝ }
 {
     let count = count_triangles(data, values, vertices);
-    if out.len() < count * (3 * (vertices.layout.n + 10)) {
-        return Answer::Refused(Refusal::Room);
+    let needed = count * (3 * (vertices.layout.n + 10));
+    if out.len() < needed {
+        return Answer::Refused(Refusal::Room(needed));
     }
     write_triangles(data, values, vertices, ranges, last_three, out);
     Answer::Wrote(count)

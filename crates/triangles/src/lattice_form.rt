@@ -173,8 +173,9 @@ pub fn lattice_form(
         return Answer::Wrote(0);
     }
     let count = 2 * (rows - 1) * (row - 1);
-    if out.len() < count * (3 * (vertices.layout.n + 10)) {
-        return Answer::Refused(Refusal::Room);
+    let needed = count * (3 * (vertices.layout.n + 10));
+    if out.len() < needed {
+        return Answer::Refused(Refusal::Room(needed));
     }
     write_lattice(data, values, vertices, ranges, row, rows, out);
     Answer::Wrote(count)

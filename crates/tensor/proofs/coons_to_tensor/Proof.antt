@@ -1,13 +1,13 @@
 -- `tensor::coons_to_tensor` meets its contract. Assumes nothing.
 use mathlib.Core.Path.{_≡_, sym}
 use Prim.Native.Nat.{_+_, _*_, _/_}
-use native.Mathlib.Nat.{div-add-mod'}
+use native.Mathlib.Nat.{le-trans, div-add-mod', div-le-self}
 use native.Mathlib.Omega.{arith}
 use lib.ListN.{length}
 use Rattle.tensor.specs.Turning.{rounded}
 use Rattle.tensor.specs.Outcomes.{coonsSize, coonsToTensor}
 use Rattle.tensor.proofs.FloatRows.{length-read, read-numbered}
-use Rattle.tensor.proofs.Answers.{some-left, none-left, has-room, many-components, many-numbers, not-whole, small-output, wrote-all}
+use Rattle.tensor.proofs.Answers.{some-left, none-left, few-places, many-components, many-numbers, not-whole, small-output, wrote-all}
 use borrow.Author.Needs.{needs}
 use Rattle.tensor.proofs.coons_to_tensor.Statement.{statement}
 use Rattle.tensor.proofs.coons_to_tensor.Tie as tie
@@ -39,11 +39,13 @@ returns-3 c = not-whole rounded _ _ _ _ _ (omega arith) (omega arith) (some-left
 div-count : tie.Need-div-count
 div-count c = search needs
 
-add-if4 : tie.Need-add-if4
-add-if4 c = search needs
+add-needed : tie.Need-add-needed
+add-needed c = search needs
 
-div-if4 : tie.Need-div-if4
-div-if4 c = search needs
+mul-needed : tie.Need-mul-needed
+mul-needed c =
+    let a = c .before .before .before .before .before .args in
+    omega (arith, few-places (length (a .values .now) / coonsSize (a .n)) (coonsSize (a .n) + 8) (le-trans (div-le-self _ _) (omega arith)) (omega arith))
 
 returns-4 : tie.Need-returns-4
 unfolding coonsToTensor
@@ -57,7 +59,7 @@ write-patches-requires c κs =
     let a = c .before .before .before .before .before .before .before .args in
     let whole : length (a .values .now) ≡ length (a .values .now) / coonsSize (a .n) * coonsSize (a .n) =
     omega (arith, div-add-mod' (length (a .values .now)) (coonsSize (a .n)), c .before .before .if3 .left) in
-    (omega arith, omega arith, whole, has-room (coonsSize (a .n) + 8) _ _ (omega arith) (c .before .if4 .left))
+    (omega arith, omega arith, whole, c .before .if4 .left)
 
 same-length : tie.Need-same-length
 same-length c = search needs
@@ -82,8 +84,8 @@ coons-to-tensor-spec =
     rem-if3
     returns-3
     div-count
-    add-if4
-    div-if4
+    add-needed
+    mul-needed
     returns-4
     write-patches-requires
     same-length

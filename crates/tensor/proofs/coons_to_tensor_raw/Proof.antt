@@ -1,6 +1,6 @@
 -- `tensor::coons_to_tensor_raw` meets its contract. Assumes nothing.
-use Prim.Native.Nat.{ℕ, _+_, _*_}
-use mathlib.Core.Path.{_≡_, refl, sym, _∙_}
+use Prim.Native.Nat.{ℕ, _+_, _*_, _≤_}
+use mathlib.Core.Path.{_≡_, refl, sym, subst, _∙_}
 use mathlib.Core.Bool.{true, false}
 use mathlib.Core.List.{List}
 use native.Mathlib.Omega.{arith}
@@ -11,9 +11,9 @@ use Rattle.rules.proofs.Tables.{sides-fit}
 use Rattle.rules.proofs.RawReading.{itself}
 use Rattle.tensor.specs.Turning.{raw}
 use Rattle.tensor.specs.Outcomes.{wholeRecords, coonsToTensorRaw}
-use Rattle.tensor.specs.Inner.Standing.{patchesOf}
+use Rattle.tensor.specs.Inner.Standing.{patchesOf, FewPatches}
 use Rattle.tensor.proofs.Walk.{told-broken, told-patches}
-use Rattle.tensor.proofs.Answers.{has-room, many-components, many-numbers, not-whole, small-output, wrote-all}
+use Rattle.tensor.proofs.Answers.{few-places, many-components, many-numbers, not-whole, small-output, wrote-all}
 use borrow.Author.Needs.{needs}
 use Rattle.tensor.proofs.coons_to_tensor_raw.Statement.{statement}
 use Rattle.tensor.proofs.coons_to_tensor_raw.Tie as tie
@@ -38,7 +38,7 @@ enum-told c = search needs
 returns-3 : tie.Need-returns-3
 unfolding coonsToTensorRaw
 returns-3 c =
-    not-whole raw _ _ _ _ _ (omega arith) (omega arith) (told-broken _ _ (sym (c .before .before .count-patches .ensures) ∙ c .enum-told .given .1))
+    not-whole raw _ _ _ _ _ (omega arith) (omega arith) (told-broken _ _ (sym (c .before .before .count-patches .ensures .0) ∙ c .enum-told .given .1))
 
 -- the list is whole, and has so many patches
 module _ (k : tie.After-counted) where
@@ -49,16 +49,21 @@ module _ (k : tie.After-counted) where
   numbers = k .before .before .before .before .before .before .args .numbers .now
 
   counted : (wholeRecords (length numbers) n false numbers ≡ true) × (k .counted .given .0 .0 ≡ length (patchesOf n numbers))
-  counted = told-patches _ _ _ (sym (k .before .before .count-patches .ensures) ∙ k .counted .given .1)
+  counted = told-patches _ _ _ (sym (k .before .before .count-patches .ensures .0) ∙ k .counted .given .1)
 
-mul-if3 : tie.Need-mul-if3
-mul-if3 c = search needs
+  few : k .counted .given .0 .0 ≤ length numbers
+  few = subst (FewPatches (length numbers)) (k .counted .given .1) (k .before .before .count-patches .ensures .1)
 
-add-if3 : tie.Need-add-if3
-add-if3 c = search needs
+mul-needed : tie.Need-mul-needed
+mul-needed c = search needs
 
-div-if3 : tie.Need-div-if3
-div-if3 c = search needs
+add-needed : tie.Need-add-needed
+add-needed c = search needs
+
+mul-needed-2 : tie.Need-mul-needed-2
+mul-needed-2 c =
+    let k = c .before in
+    omega (arith, few-places (k .counted .given .0 .0) (32 + 4 * n k) (omega (arith, few k)) (omega arith))
 
 returns-4 : tie.Need-returns-4
 unfolding coonsToTensorRaw
@@ -70,7 +75,7 @@ returns-4 c =
 write-patches-requires : tie.Need-write-patches-requires
 write-patches-requires c κs =
     let k = c .before .before .before in
-    (omega arith, omega arith, counted k .0, rw (← (counted k .1)) (has-room (32 + 4 * n k) _ _ (omega arith) (c .before .if3 .left)))
+    (omega arith, omega arith, counted k .0, rw (← (counted k .1)) (c .before .if3 .left))
 
 same-length : tie.Need-same-length
 same-length c = search needs
@@ -91,9 +96,9 @@ coons-to-tensor-raw-spec =
     enum-known-counted
     enum-told
     returns-3
-    mul-if3
-    add-if3
-    div-if3
+    mul-needed
+    add-needed
+    mul-needed-2
     returns-4
     write-patches-requires
     same-length

@@ -51,3 +51,8 @@ patchesOf n xs = patches 0 sides (λ x. x) 8 n xs
 -- what the first pass finds
 abbrev pub countOf : Bool → ℕ → Counted
 countOf whole count = cond whole (Patches count) Broken
+
+-- no more patches than numbers
+abbrev pub FewPatches : ℕ → Counted → Type 0
+FewPatches size (Patches count) = count ≤ size
+FewPatches size Broken = Unit {0}

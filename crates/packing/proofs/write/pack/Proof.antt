@@ -1,13 +1,13 @@
 -- `packing::write::pack` meets its contract: what the first pass found says which answer it is.
 -- Assumes nothing.
 use Prim.Native.Nat.{ℕ, _*_, _≤_}
-use mathlib.Core.Path.{_≡_, sym, _∙_}
+use mathlib.Core.Path.{_≡_, sym, ap, _∙_}
 use mathlib.Core.Bool.{false}
 use mathlib.Core.List.{List, []}
 use mathlib.Core.Option.{some}
 use native.Mathlib.Omega.{arith}
 use lib.ListN.{length}
-use Rattle.packing.specs.Packed.{packed}
+use Rattle.packing.specs.Packed.{byteCount, packed}
 use Rattle.records.specs.Inner.Walk.{formatOf}
 use Rattle.packing.proofs.Accepting.{accepted-bits}
 use Rattle.packing.proofs.Finishing.{measured-unfit, measured-bits, not-accepted, without-room, has-room}
@@ -43,13 +43,13 @@ module _ (k : tie.After-known-told) where
       let r = s .pre .0 in
       accepted-bits (m .kind) (m .first) (m .coord) (m .comp) (m .n) (s .args .numbers .now) (bits .0) (r .first-few) (r .coord-few) (r .comp-few) (bits .1) .few
 
-add-if1 : tie.Need-add-if1
-add-if1 c = omega (arith, bits c .2, few c)
+add-needed : tie.Need-add-needed
+add-needed c = omega (arith, bits c .2, few c)
 
 returns-2 : tie.Need-returns-2
 returns-2 c =
     let k = c .before in
-    without-room _ (bits k .0) (bits k .1) (s k .args .out .now) (rw (bits k .2) (c .if1 .taken))
+    without-room _ (bits k .0) (bits k .1) (s k .args .out .now) (ap byteCount (bits k .2)) (c .if1 .taken)
 
 fill-requires : tie.Need-fill-requires
 fill-requires c κs =
@@ -70,7 +70,7 @@ pack-spec =
     enum-known-measured
     enum-told
     returns
-    add-if1
+    add-needed
     returns-2
     fill-requires
     same-length

@@ -3,7 +3,7 @@ use Prim.Native.Nat.{_+_, _*_, _≤_}
 use native.Mathlib.Omega.{arith}
 use native.Mathlib.Nat.{mul-le-mul}
 use borrow.Author.Needs.{needs}
-use Rattle.answers.proofs.Outcomes.{no-room, all-written}
+use Rattle.answers.proofs.Outcomes.{no-room-for, all-written}
 use Rattle.rows.specs.Inner.Layouts.{heldRanges}
 use Rattle.patches.specs.Inner.Forms.{tableOf}
 use Rattle.patches.proofs.Walk.{finished-length}
@@ -13,23 +13,23 @@ use Rattle.patches.proofs.writing.patches.Tie as tie
 count-patches-requires : tie.Need-count-patches-requires
 count-patches-requires c κs = search needs
 
-add-size : tie.Need-add-size
-add-size c = search needs
+add-needed : tie.Need-add-needed
+add-needed c = search needs
 
-mul-size : tie.Need-mul-size
-mul-size c = search needs
+mul-needed : tie.Need-mul-needed
+mul-needed c = search needs
 
-add-size-2 : tie.Need-add-size-2
-add-size-2 c = search needs
+add-needed-2 : tie.Need-add-needed-2
+add-needed-2 c = search needs
 
-mul-size-2 : tie.Need-mul-size-2
-mul-size-2 c = search needs
+mul-needed-2 : tie.Need-mul-needed-2
+mul-needed-2 c = search needs
 
-add-size-3 : tie.Need-add-size-3
-add-size-3 c = search needs
+add-needed-3 : tie.Need-add-needed-3
+add-needed-3 c = search needs
 
-mul-if1 : tie.Need-mul-if1
-mul-if1 c =
+mul-needed-3 : tie.Need-mul-needed-3
+mul-needed-3 c =
     let c1 = c .before in
     let c5 = c1 .before .before .before .before in
     let a = c5 .args in
@@ -46,8 +46,8 @@ returns c =
     let h = c6 .pre in
     let table = tableOf (a .sides) in
     let ranges = heldRanges (a .ranges .now) in
-    no-room _ _ (finished-length (h .1) ranges (h .0))
-    (rw (c2 .count-patches .ensures .1 table ranges (h .1)) at (c .if1 .taken))
+    no-room-for _ _ ((4 + a .records .own) * 2 + 4 * (8 + a .records .layout .n)) (finished-length (h .1) ranges (h .0))
+    (c2 .count-patches .ensures .1 table ranges (h .1)) (c .if1 .taken)
 
 write-patches-requires : tie.Need-write-patches-requires
 write-patches-requires c κs =
@@ -83,12 +83,12 @@ patches-spec =
     tie.close
     (tie.spec
     count-patches-requires
-    add-size
-    mul-size
-    add-size-2
-    mul-size-2
-    add-size-3
-    mul-if1
+    add-needed
+    mul-needed
+    add-needed-2
+    mul-needed-2
+    add-needed-3
+    mul-needed-3
     returns
     write-patches-requires
     same-length

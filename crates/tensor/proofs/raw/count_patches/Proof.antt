@@ -43,7 +43,7 @@ enum-told c = search needs
 returns : tie.Need-returns Inv-loop μ-loop
 returns c =
     let w = c .before .before .before .before .before .loop .inv .2 .1 .1 .0 in
-    count-broken (c .before .before .before .before .before .before .before .args .n) (c .before .before .before .before .before .before .before .args .numbers .now) ((walk-ends w (c .before .before .before .before .loop-test .taken) (sym (c .before .before .shape-of .ensures) ∙ c .enum-told .given .1)))
+    (count-broken (c .before .before .before .before .before .before .before .args .n) (c .before .before .before .before .before .before .before .args .numbers .now) ((walk-ends w (c .before .before .before .before .loop-test .taken) (sym (c .before .before .shape-of .ensures) ∙ c .enum-told .given .1))), tt)
 
 -- the record at i
 module _ (k : tie.After-known-told Inv-loop μ-loop) where
@@ -79,7 +79,7 @@ sub-if1 c = search needs
 
 returns-2 : tie.Need-returns-2 Inv-loop μ-loop
 returns-2 c =
-    count-broken (c .before .before .before .before .before .before .before .before .before .args .n) (c .before .before .before .before .before .before .before .before .before .args .numbers .now) ((walk-cut (c .before .before .before .before .before .before .before .loop .inv .2 .1 .1 .0) (c .before .before .before .before .before .before .loop-test .taken) (coords (c .before)) (colours (c .before)) (follows (c .before)) (omega (arith, c .if1 .taken))))
+    (count-broken (c .before .before .before .before .before .before .before .before .before .args .n) (c .before .before .before .before .before .before .before .before .before .args .numbers .now) ((walk-cut (c .before .before .before .before .before .before .before .loop .inv .2 .1 .1 .0) (c .before .before .before .before .before .before .loop-test .taken) (coords (c .before)) (colours (c .before)) (follows (c .before)) (omega (arith, c .if1 .taken)))), tt)
 
 add-count : tie.Need-add-count Inv-loop μ-loop
 add-count c = search needs
@@ -102,7 +102,7 @@ loop-again c =
 returns-3 : tie.Need-returns-3 Inv-loop μ-loop
 returns-3 c =
     let l = c .before .loop in
-    count-all _ _ (l .inv .2 .1 .0) (l .count) (walk-end (l .inv .2 .1 .1 .0) (omega arith)) (l .inv .2 .1 .1 .1)
+    (count-all _ _ (l .inv .2 .1 .0) (l .count) (walk-end (l .inv .2 .1 .1 .0) (omega arith)) (l .inv .2 .1 .1 .1), omega (arith, l .inv .0, l .inv .1))
 
 pub count-patches-spec : {M : Type 1} → statement M
 count-patches-spec =

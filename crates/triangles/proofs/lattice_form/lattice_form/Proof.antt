@@ -5,9 +5,11 @@ use native.Mathlib.Omega.{arith}
 use native.Mathlib.Nat.{mul-le-mul-left}
 use Rattle.lists.specs.Lists.{flat}
 use Rattle.lists.proofs.Writing.{written-none}
-use Rattle.answers.proofs.Outcomes.{no-room, all-written}
+use Rattle.answers.proofs.Outcomes.{all-written}
+use Rattle.rows.specs.Inner.Layouts.{heldRanges}
+use Rattle.rules.specs.Lattice.{lattice}
 use Rattle.triangles.proofs.Rows.{length-in, total-small, numbers-small}
-use Rattle.triangles.proofs.Writing.{length-mesh}
+use Rattle.triangles.proofs.Ends.{no-room-for-triangles}
 use Rattle.triangles.proofs.Cells.{no-cells, long-rows, all-rows, rows-inside, few-cells, cell-count, numbers-of-cells, lattice-written}
 use borrow.Author.Needs.{needs}
 use Rattle.triangles.proofs.lattice_form.lattice_form.Statement.{statement}
@@ -33,19 +35,19 @@ sub-count-2 c = omega (arith, long-rows (c .before .before .before .before .befo
 mul-count-2 : tie.Need-mul-count-2
 mul-count-2 c = omega (arith, few-cells (c .before .before .before .before .before .args .vertices .total) (c .before .before .before .before .before .args .row) (c .before .lattice-rows .result) (c .before .lattice-rows .ensures) (omega (arith, c .if1 .left)), total-small (c .before .before .before .before .before .pre))
 
-add-if2 : tie.Need-add-if2
-add-if2 c = omega (arith, c .before .before .before .before .before .before .pre .few)
+add-needed : tie.Need-add-needed
+add-needed c = omega (arith, c .before .before .before .before .before .before .pre .few)
 
-mul-if2 : tie.Need-mul-if2
-mul-if2 c = omega (arith, c .before .before .before .before .before .before .pre .few)
+mul-needed : tie.Need-mul-needed
+mul-needed c = omega (arith, c .before .before .before .before .before .before .pre .few)
 
-mul-if2-2 : tie.Need-mul-if2-2
-mul-if2-2 c = omega (arith, numbers-small (c .before .before .before .before .before .before .pre) (2 * (c .before .before .lattice-rows .result - 1) * (c .before .before .before .before .before .before .args .row - 1)) (few-cells (c .before .before .before .before .before .before .args .vertices .total) (c .before .before .before .before .before .before .args .row) (c .before .before .lattice-rows .result) (c .before .before .lattice-rows .ensures) (omega (arith, c .before .if1 .left))))
+mul-needed-2 : tie.Need-mul-needed-2
+mul-needed-2 c = omega (arith, numbers-small (c .before .before .before .before .before .before .pre) (2 * (c .before .before .lattice-rows .result - 1) * (c .before .before .before .before .before .before .args .row - 1)) (few-cells (c .before .before .before .before .before .before .args .vertices .total) (c .before .before .before .before .before .before .args .row) (c .before .before .lattice-rows .result) (c .before .before .lattice-rows .ensures) (omega (arith, c .before .if1 .left))))
 
 returns-2 : tie.Need-returns-2
 returns-2 c = let s = c .before .before .before .before .before .before .before in
     let e = cell-count (c .before .before .before .before .before .before .before .args .vertices .total) (c .before .before .before .before .before .before .before .args .row) (c .before .before .before .lattice-rows .result) (c .before .before .before .lattice-rows .ensures) (omega (arith, c .before .before .if1 .left)) in
-    no-room _ _ (length-mesh _ _ (length-in (s .args .vertices) _ _ _) _) (rw e at (c .if2 .taken))
+    no-room-for-triangles (s .args .vertices) (s .args .«data» .now) (s .args .values .now) (heldRanges (s .args .ranges .now)) (lattice (s .args .vertices .total) (s .args .row)) (s .args .out .now) e (c .if2 .taken)
 
 write-lattice-requires : tie.Need-write-lattice-requires
 write-lattice-requires c κs = let s = c .before .before .before .before .before .before .before .before in
@@ -76,9 +78,9 @@ lattice-form-spec =
     mul-count
     sub-count-2
     mul-count-2
-    add-if2
-    mul-if2
-    mul-if2-2
+    add-needed
+    mul-needed
+    mul-needed-2
     returns-2
     write-lattice-requires
     same-length
