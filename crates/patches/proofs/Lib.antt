@@ -5,3 +5,4 @@ pub mod Walk
 pub mod Copying
 pub mod Placing
 pub mod Starting
+pub mod Ends

@@ -57,8 +57,6 @@ fn parse_patches(
     if data.len() > answers::MOST_BYTES {
         return Answer::Refused(Refusal::Length);
     }
-    let mut ranges = [0.0; 68];
-    rows::fill_ranges(decode, coord, comp, &mut ranges);
     let layout = Layout {
         listed: false,
         flag,
@@ -71,7 +69,7 @@ fn parse_patches(
         own: own_points(form),
         limit: 8 * data.len(),
     };
-    writing::patches(data, &decode[0..0], records, &ranges, Sides::Border, out)
+    writing::patches(data, &decode[0..0], decode, records, Sides::Border, out)
 }
 
 fn build_patches(values: &[f64], n: usize, form: Form, sides: Sides, out: &mut [f64]) -> Answer
@@ -97,8 +95,7 @@ fn build_patches(values: &[f64], n: usize, form: Form, sides: Sides, out: &mut [
         limit: values.len(),
     };
     let none = [0u8; 1];
-    let ranges = [0.0; 68];
-    writing::patches(&none, values, records, &ranges, sides, out)
+    writing::patches(&none, values, &values[0..0], records, sides, out)
 }
 
 // ---- from bytes

@@ -9,7 +9,7 @@ ghost use Rattle.lists.specs.Lists.{AllBelow, flat};
 ghost use Rattle.lists.specs.Writing.{Written};
 ghost use Rattle.answers.specs.Outcome.{Done};
 ghost use Rattle.decode.specs.Decode.{Ranges};
-ghost use Rattle.rows.specs.Inner.Layouts.{heldRanges};
+ghost use Rattle.rows.specs.Inner.Layouts.{heldRanges, rangeList};
 ghost use Rattle.rules.specs.Patches.{Table};
 ghost use Rattle.rules.specs.Inner.Sides.{Fits};
 ghost use Rattle.meshes.specs.Outcomes.{fittedMesh};
@@ -184,24 +184,26 @@ fn write_patches(
     }
 }
 
-// The patches, if there is room for them.
+// The patches, if there is room for them. Decode's ranges are worked out only then.
 pub fn patches(
     data: &[u8],
     values: &[f64],
+    decode: &[f64],
     records: Records,
-    ranges: &[f64; 68],
     sides: Sides,
     out: &mut [f64],
 ) -> Answer
     requires { ⌜ (RecordsThere records (now «data») (now values)) × (Suits (tableOf sides) records) ⌝ }
-    ensures { λ r. ⌜ Done (fittedMesh (finishedOf (tableOf sides) records (now («data» .entry)) (now (values .entry)) (heldRanges (now (ranges .entry)))) (length (now (out .entry)))) (now (out .entry)) r (now (out .exit)) ⌝ }
+    ensures { λ r. ⌜ Done (fittedMesh (finishedOf (tableOf sides) records (now («data» .entry)) (now (values .entry)) (heldRanges (rangeList (now (decode .entry)) (records .layout .coord) (records .layout .comp)))) (length (now (out .entry)))) (now (out .entry)) r (now (out .exit)) ⌝ }
 {
+    let layout = records.layout;
     let count = count_patches(data, values, records);
-    let n = records.layout.n;
-    let needed = count * ((4 + records.own) * 2 + 4 * (8 + n));
+    let needed = count * ((4 + records.own) * 2 + 4 * (8 + layout.n));
     if out.len() < needed {
         return Answer::Refused(Refusal::Room(needed));
     }
-    write_patches(data, values, records, ranges, sides, out);
+    let mut ranges = [0.0; 68];
+    rows::fill_ranges(layout, decode, &mut ranges);
+    write_patches(data, values, records, &ranges, sides, out);
     Answer::Wrote(count)
 }

@@ -1,7 +1,7 @@
 -- The list of the ranges of all kinds, as a loop fills it; and what it holds are Decode's ranges. Assumes nothing.
 use Prim.Native.Nat.{ℕ, zero, suc, _+_, _*_, _<_}
 use mathlib.Core.Path.{_≡_, refl, ap, _∙_}
-use mathlib.Core.Bool.{cond}
+use mathlib.Core.Bool.{Bool, true, false, cond}
 use mathlib.Core.List.{List, [], _∷_, _++_}
 use native.Mathlib.Omega.{arith}
 use lib.Dec.{ltb}
@@ -15,7 +15,8 @@ use Rattle.lists.proofs.Pieces.{length-joined}
 use Rattle.lists.proofs.Writing.{written-length, written-one, written-set, written-more}
 use Rattle.decode.specs.declared.Range.{Range}
 use Rattle.decode.specs.Decode.{rangeOf, ranges}
-use Rattle.rows.specs.Inner.Layouts.{rangeList, heldRanges}
+use Rattle.rows.specs.declared.Layout.{Layout}
+use Rattle.rows.specs.Inner.Layouts.{rangeList, heldRanges, filledRanges}
 
 -- elements 2 * i and 2 * i + 1 of a list that has two for each number below k
 getD-pairs : (f g : ℕ → Float) (k i : ℕ) → i < k
@@ -53,3 +54,12 @@ module _ (dec : List Float) (coord comp k : ℕ) where
       let two : Written o (set (set o (2 * k) (v .min)) (2 * k + 1) (v .scale)) (2 * k) (v .min ∷ v .scale ∷ []) (2 * k + 1 + 1) =
       written-set _ _ refl (omega arith) (written-one o (2 * k) (v .min) (omega arith)) in
       rw (r, ← q) (written-more k (λ (j : ℕ). ranges dec coord comp j .min ∷ ranges dec coord comp j .scale ∷ []) w two)
+
+-- what a list makes needs no ranges; so once they are filled, what is made of them is what Decode's ranges make
+pub filled-alike : {X : Type 0} (L : Layout) (dec before : List Float) (listed : X) (decoded : List Float → X)
+    → cond (L .listed) listed (decoded (filledRanges L dec before)) ≡ cond (L .listed) listed (decoded (rangeList dec (L .coord) (L .comp)))
+filled-alike {X} L dec before listed decoded = go (L .listed)
+  where
+    go : (b : Bool) → cond b listed (decoded (cond b before (rangeList dec (L .coord) (L .comp)))) ≡ cond b listed (decoded (rangeList dec (L .coord) (L .comp)))
+    go true = refl
+    go false = refl

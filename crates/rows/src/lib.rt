@@ -8,7 +8,7 @@ ghost use lib.Ieee.{nan};
 ghost use Rattle.lists.specs.Lists.{part};
 ghost use Rattle.lists.specs.Writing.{Placed};
 ghost use Rattle.colour.specs.Inner.Places.{pointsAt, coloursAt};
-ghost use Rattle.rows.specs.Inner.Layouts.{numbersOf, vertexIn, flagAt, heldRanges, rangeList};
+ghost use Rattle.rows.specs.Inner.Layouts.{numbersOf, vertexIn, flagAt, heldRanges, filledRanges};
 ghost use Rattle.rows.specs.Inner.Placing.{runFits, copyFits, cornerFits, pointsAlone, coloursAlone, sharedRows};
 use bits::BitPos;
 use bits::BitRead;
@@ -45,11 +45,14 @@ pub struct Vertex {
     pub colour: DeviceColor,
 }
 
-// The ranges of all kinds, worked out once: the least number and the step of x, of y, and of each component.
-pub fn fill_ranges(decode: &[f64], coord: usize, comp: usize, ranges: &mut [f64; 68])
-    ensures { λ _. ⌜ now (ranges .exit) ≡ rangeList (now (decode .entry)) coord comp ⌝ }
+// The ranges of all kinds, worked out once: the least number and the step of x, of y, and of each component. The numbers of a list need none.
+pub fn fill_ranges(layout: Layout, decode: &[f64], ranges: &mut [f64; 68])
+    ensures { λ _. ⌜ now (ranges .exit) ≡ filledRanges layout (now (decode .entry)) (now (ranges .entry)) ⌝ }
 {
-    ranges::fill(decode, coord, comp, ranges);
+    if layout.listed {
+        return;
+    }
+    ranges::fill(decode, layout.coord, layout.comp, ranges);
 }
 
 // The flag at a place; 0 where there is none.

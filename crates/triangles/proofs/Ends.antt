@@ -1,6 +1,6 @@
 -- How calls of the readers and builders end, where nothing refuses them but ROOM. Assumes nothing.
 use Prim.Native.Nat.{ℕ, _+_, _*_, _≤_, _<_}
-use mathlib.Core.Path.{_≡_, refl, sym, ap, _∙_}
+use mathlib.Core.Path.{_≡_, refl, sym, ap, subst, _∙_}
 use mathlib.Core.Bool.{Bool, true, false, and-eq-true-iff}
 use mathlib.Core.List.{List}
 use native.Mathlib.Omega.{arith}
@@ -8,21 +8,23 @@ use native.Mathlib.Nat.{div-mul-le-self}
 use lib.ListN.{length}
 use lib.Ieee.{Float}
 use Rattle.lists.specs.Lists.{flat}
+use Rattle.lists.specs.Writing.{Written}
 use Rattle.answers.specs.declared.Told.{Told}
 use Rattle.answers.specs.Limits.{mostComponents, mostBytes, mostNumbers}
 use Rattle.answers.specs.declared.Refusal.the-variants.{Room}
-use Rattle.answers.specs.declared.Answer.the-variants.{Refused}
+use Rattle.answers.specs.declared.Answer.the-variants.{Wrote, Refused}
 use Rattle.answers.specs.Outcome.{Outcome, Tells, Done}
-use Rattle.answers.proofs.Outcomes.{no-room-for}
+use Rattle.answers.proofs.Outcomes.{no-room-for, all-written}
 use Rattle.decode.specs.Decode.{Ranges, ranges}
 use Rattle.records.specs.declared.layout.FlagWidth.{FlagWidth}
 use Rattle.records.specs.declared.layout.FlagWidth.the-variants.{Absent, Bits}
 use Rattle.records.specs.declared.shape.Kind.the-variants.{Four, Five}
 use Rattle.records.specs.Layout.{firstWidth, layoutReadable}
 use Rattle.records.proofs.Layouts.{Widths, widths-readable}
+use Rattle.colour.specs.Inner.Places.{Numbers, bitNumbers, listNumbers, vertexAt}
 use Rattle.rows.specs.declared.Layout.{Layout}
-use Rattle.rows.specs.Inner.Layouts.{numbersOf, flagIn, rangeList, heldRanges}
-use Rattle.rows.proofs.Held.{held-ranges}
+use Rattle.rows.specs.Inner.Layouts.{numbersOf, flagIn, rangeList, heldRanges, filledRanges}
+use Rattle.rows.proofs.Held.{held-ranges, filled-alike}
 use Rattle.rules.specs.Triangles.{Tri, triangleBefore, triangles, corners}
 use Rattle.rules.specs.Lattice.{lattice}
 use Rattle.rules.specs.Meshes.{Finished, finished, type4Mesh, type5Mesh}
@@ -81,13 +83,26 @@ pub layout-widths : (flag : FlagWidth) (coord comp entries : ℕ) → layoutRead
 unfolding layoutReadable
 layout-widths flag coord comp entries e = widths-readable (firstWidth flag coord) coord comp ((simp and-eq-true-iff at e) .0)
 
--- ---- no room for so many triangles, of three rows each
+-- ---- how a core ends, which has counted the triangles: without room for them, of three rows each, or with all of them written
 
-pub no-room-for-triangles : (v : Vertices) (s : List ℕ) (vs : List Float) (R : Ranges) (ts : List Tri) {c : ℕ} (entry : List Float) → c ≡ length ts
-    → length entry < c * (3 * (v .layout .n + 10))
-    → Done (fittedMesh (finished ts (rowOfVertex v s vs R)) (length entry)) entry (Refused (Room (c * (3 * (v .layout .n + 10))))) entry
-no-room-for-triangles v s vs R ts entry =
-    no-room-for (length ts) (flat (corners (rowOfVertex v s vs R)) ts) (3 * (v .layout .n + 10)) (length-mesh (rowOfVertex v s vs R) (v .layout .n + 10) (length-in v s vs R) ts)
+module _ (v : Vertices) (s : List ℕ) (vs dec : List Float) (ts : List Tri) (entry : List Float) {c : ℕ} (counted : c ≡ length ts) where
+  abbrev rowOf : ℕ → List Float
+  rowOf = rowOfVertex v s vs (heldRanges (rangeList dec (v .layout .coord) (v .layout .comp)))
+
+  pub no-room-for-triangles : length entry < c * (3 * (v .layout .n + 10))
+      → Done (fittedMesh (finished ts rowOf) (length entry)) entry (Refused (Room (c * (3 * (v .layout .n + 10))))) entry
+  no-room-for-triangles =
+      no-room-for (length ts) (flat (corners rowOf) ts) (3 * (v .layout .n + 10)) (length-mesh rowOf (v .layout .n + 10) (length-in v s vs _) ts) counted
+
+  pub triangles-written : (held before : List Float) {exit : List Float} {p : ℕ} → held ≡ filledRanges (v .layout) dec before
+      → Written entry exit 0 (flat (corners (rowOfVertex v s vs (heldRanges held))) ts) p
+      → Done (fittedMesh (finished ts rowOf) (length entry)) entry (Wrote c) exit
+  unfolding rowOfVertex numbersOf
+  triangles-written held before {exit} {p} filled w =
+      let numbers : numbersOf (v .layout) s vs (heldRanges held) ≡ numbersOf (v .layout) s vs (heldRanges (rangeList dec (v .layout .coord) (v .layout .comp))) =
+      ap (λ (l : List Float). numbersOf (v .layout) s vs (heldRanges l)) filled ∙ filled-alike (v .layout) dec before (listNumbers vs) (λ (l : List Float). bitNumbers s (heldRanges l)) in
+      all-written counted
+      (subst (λ (N : Numbers). Written entry exit 0 (flat (corners (λ (i : ℕ). vertexAt N (v .layout .coord) (v .layout .comp) (v .layout .n) (i * v .size + v .layout .flag))) ts) p) numbers w)
 
 -- ---- what was found and written is what the outcome says
 
@@ -96,34 +111,36 @@ finishes : {o : Outcome Float} {m m′ : Finished Float} {entry exit : List Floa
     → Tells (fittedMesh m′ (length entry)) entry t exit → Tells o entry t exit
 finishes {o} {m} {m′} {entry} {exit} {t} e g d = rw (e ∙ ap (λ (k : Finished Float). fittedMesh k (length entry)) g) d
 
-module _ (s : List ℕ) (vs : List Float) (coord comp : ℕ) (dec : List Float) (n : ℕ) {held : List Float} (few : n ≤ mostComponents)
-    (filled : held ≡ rangeList dec coord comp) (short : length s ≤ mostBytes) where
-  alike : (k : ℕ) → k < 2 + n → heldRanges held k ≡ ranges dec coord comp k
-  alike k h = ap (λ (l : List Float). heldRanges l k) filled ∙ held-ranges dec coord comp k (omega arith)
+module _ (s : List ℕ) (vs : List Float) (coord comp : ℕ) (dec : List Float) (n : ℕ) (few : n ≤ mostComponents) (short : length s ≤ mostBytes) where
+  abbrev held : Ranges
+  held = heldRanges (rangeList dec coord comp)
+
+  alike : (k : ℕ) → k < 2 + n → held k ≡ ranges dec coord comp k
+  alike k h = held-ranges dec coord comp k (omega arith)
 
   pub type4-ended : {entry exit : List Float} {t : Told} (flag : ℕ) → layoutReadable coord comp (Bits flag) (length dec) ≡ true
       → let v : Vertices = verticesIn (bitLayout flag coord comp n) (8 * length s) in
-      Tells (fittedMesh (finished (trianglesIn false v s vs) (rowOfVertex v s vs (heldRanges held))) (length entry)) entry t exit
+      Tells (fittedMesh (finished (trianglesIn false v s vs) (rowOfVertex v s vs held)) (length entry)) entry t exit
       → Tells (parse4 (triangles triangleBefore) s coord comp flag dec n (length entry)) entry t exit
   unfolding trianglesIn flagOfVertex rowOfVertex numbersOf flagIn
   type4-ended {entry} flag e d =
       let m : Stream = record { kind = Four; flag = Bits flag; coord = coord; comp = comp; entries = dec; n = n } in
       let w = layout-widths (Bits flag) coord comp (length dec) e in
       finishes (accepted m (type4Mesh (triangles triangleBefore)) s entry e few short)
-      (sym (type4-alike (heldRanges held) (ranges dec coord comp) n alike (triangles triangleBefore) (rawOf m s))
-      ∙ mesh-of-type4 s (heldRanges held) coord comp n flag (w .of-first .some-bits) triangleBefore) d
+      (sym (type4-alike held (ranges dec coord comp) n alike (triangles triangleBefore) (rawOf m s))
+      ∙ mesh-of-type4 s held coord comp n flag (w .of-first .some-bits) triangleBefore) d
 
   pub type5-ended : {entry exit : List Float} {t : Told} (row : ℕ) → layoutReadable coord comp Absent (length dec) ≡ true
       → let v : Vertices = verticesIn (bitLayout 0 coord comp n) (8 * length s) in
-      Tells (fittedMesh (finished (lattice (v .total) row) (rowOfVertex v s vs (heldRanges held))) (length entry)) entry t exit
+      Tells (fittedMesh (finished (lattice (v .total) row) (rowOfVertex v s vs held)) (length entry)) entry t exit
       → Tells (parse5 s coord comp dec n row (length entry)) entry t exit
   unfolding rowOfVertex numbersOf
   type5-ended {entry} row e d =
       let m : Stream = record { kind = Five; flag = Absent; coord = coord; comp = comp; entries = dec; n = n } in
       let w = layout-widths Absent coord comp (length dec) e in
       finishes (accepted m (type5Mesh row) s entry e few short)
-      (sym (type5-alike (heldRanges held) (ranges dec coord comp) n alike row (rawOf m s))
-      ∙ mesh-of-type5 s (heldRanges held) coord comp n (w .of-coord .some-bits) row) d
+      (sym (type5-alike held (ranges dec coord comp) n alike row (rawOf m s))
+      ∙ mesh-of-type5 s held coord comp n (w .of-coord .some-bits) row) d
 
 module _ (s : List ℕ) (vs : List Float) (n : ℕ) (R : Ranges) {entry exit : List Float} {t : Told} (few : n ≤ mostComponents)
     (short : length vs ≤ mostNumbers) where

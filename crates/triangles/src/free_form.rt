@@ -8,7 +8,7 @@ ghost use lib.Dec.{eqb};
 ghost use Rattle.lists.specs.Lists.{flat};
 ghost use Rattle.lists.specs.Writing.{Written};
 ghost use Rattle.answers.specs.Outcome.{Done};
-ghost use Rattle.rows.specs.Inner.Layouts.{heldRanges};
+ghost use Rattle.rows.specs.Inner.Layouts.{heldRanges, rangeList};
 ghost use Rattle.rules.specs.Triangles.{tri, corners};
 ghost use Rattle.rules.specs.Meshes.{finished};
 ghost use Rattle.meshes.specs.Outcomes.{fittedMesh};
@@ -142,23 +142,26 @@ fn write_triangles(
     p
 }
 
-// Counts, tests for room, and writes.
+// Counts, tests for room, and writes. Decode's ranges are worked out only where there is room.
 pub fn free_form(
     data: &[u8],
     values: &[f64],
+    decode: &[f64],
     vertices: Vertices,
-    ranges: &[f64; 68],
     last_three: bool,
     out: &mut [f64],
 ) -> Answer
     requires { ⌜ VerticesThere vertices (now «data») (now values) × Flagged vertices ⌝ }
-    ensures { λ r. ⌜ Done (fittedMesh (finished (trianglesIn «last_three» vertices (now («data» .entry)) (now (values .entry))) (rowOfVertex vertices (now («data» .entry)) (now (values .entry)) (heldRanges (now (ranges .entry))))) (length (now (out .entry)))) (now (out .entry)) r (now (out .exit)) ⌝ }
+    ensures { λ r. ⌜ Done (fittedMesh (finished (trianglesIn «last_three» vertices (now («data» .entry)) (now (values .entry))) (rowOfVertex vertices (now («data» .entry)) (now (values .entry)) (heldRanges (rangeList (now (decode .entry)) (vertices .layout .coord) (vertices .layout .comp))))) (length (now (out .entry)))) (now (out .entry)) r (now (out .exit)) ⌝ }
 {
+    let layout = vertices.layout;
     let count = count_triangles(data, values, vertices);
-    let needed = count * (3 * (vertices.layout.n + 10));
+    let needed = count * (3 * (layout.n + 10));
     if out.len() < needed {
         return Answer::Refused(Refusal::Room(needed));
     }
-    write_triangles(data, values, vertices, ranges, last_three, out);
+    let mut ranges = [0.0f64; 68];
+    rows::fill_ranges(layout, decode, &mut ranges);
+    write_triangles(data, values, vertices, &ranges, last_three, out);
     Answer::Wrote(count)
 }

@@ -8,7 +8,7 @@ ghost use lib.Dec.{ltb};
 ghost use Rattle.lists.specs.Lists.{joined};
 ghost use Rattle.lists.specs.Writing.{Written};
 ghost use Rattle.answers.specs.Outcome.{Done};
-ghost use Rattle.rows.specs.Inner.Layouts.{heldRanges};
+ghost use Rattle.rows.specs.Inner.Layouts.{heldRanges, rangeList};
 ghost use Rattle.rules.specs.Lattice.{lattice};
 ghost use Rattle.rules.specs.Meshes.{finished};
 ghost use Rattle.meshes.specs.Outcomes.{fittedMesh};
@@ -156,27 +156,30 @@ fn write_lattice(
     p
 }
 
-// Counts, tests for room, and writes.
+// Counts, tests for room, and writes. Decode's ranges are worked out only where there is room.
 pub fn lattice_form(
     data: &[u8],
     values: &[f64],
+    decode: &[f64],
     vertices: Vertices,
-    ranges: &[f64; 68],
     row: usize,
     out: &mut [f64],
 ) -> Answer
     requires { ⌜ VerticesThere vertices (now «data») (now values) ⌝ }
-    ensures { λ r. ⌜ Done (fittedMesh (finished (lattice (vertices .total) row) (rowOfVertex vertices (now («data» .entry)) (now (values .entry)) (heldRanges (now (ranges .entry))))) (length (now (out .entry)))) (now (out .entry)) r (now (out .exit)) ⌝ }
+    ensures { λ r. ⌜ Done (fittedMesh (finished (lattice (vertices .total) row) (rowOfVertex vertices (now («data» .entry)) (now (values .entry)) (heldRanges (rangeList (now (decode .entry)) (vertices .layout .coord) (vertices .layout .comp))))) (length (now (out .entry)))) (now (out .entry)) r (now (out .exit)) ⌝ }
 {
+    let layout = vertices.layout;
     let rows = lattice_rows(vertices.total, row);
     if rows < 2 {
         return Answer::Wrote(0);
     }
     let count = 2 * (rows - 1) * (row - 1);
-    let needed = count * (3 * (vertices.layout.n + 10));
+    let needed = count * (3 * (layout.n + 10));
     if out.len() < needed {
         return Answer::Refused(Refusal::Room(needed));
     }
-    write_lattice(data, values, vertices, ranges, row, rows, out);
+    let mut ranges = [0.0f64; 68];
+    rows::fill_ranges(layout, decode, &mut ranges);
+    write_lattice(data, values, vertices, &ranges, row, rows, out);
     Answer::Wrote(count)
 }

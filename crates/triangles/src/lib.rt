@@ -52,9 +52,7 @@ fn read_type4(
         n,
     };
     let vertices = vertices_in(layout, 8 * data.len());
-    let mut ranges = [0.0f64; 68];
-    rows::fill_ranges(decode, coord, comp, &mut ranges);
-    free_form(data, &decode[0..0], vertices, &ranges, false, out)
+    free_form(data, &decode[0..0], decode, vertices, false, out)
 }
 
 fn read_type5(
@@ -85,9 +83,7 @@ fn read_type5(
         n,
     };
     let vertices = vertices_in(layout, 8 * data.len());
-    let mut ranges = [0.0f64; 68];
-    rows::fill_ranges(decode, coord, comp, &mut ranges);
-    lattice_form(data, &decode[0..0], vertices, &ranges, row, out)
+    lattice_form(data, &decode[0..0], decode, vertices, row, out)
 }
 
 // The Type 4 reader of 000.
@@ -170,8 +166,7 @@ fn build_type4(values: &[f64], n: usize, last_three: bool, out: &mut [f64]) -> A
     };
     let vertices = vertices_in(layout, values.len());
     let none = [0u8; 1];
-    let ranges = [0.0f64; 68];
-    free_form(&none, values, vertices, &ranges, last_three, out)
+    free_form(&none, values, &values[0..0], vertices, last_three, out)
 }
 
 fn build_type5(values: &[f64], n: usize, row: usize, out: &mut [f64]) -> Answer
@@ -192,8 +187,7 @@ fn build_type5(values: &[f64], n: usize, row: usize, out: &mut [f64]) -> Answer
     };
     let vertices = vertices_in(layout, values.len());
     let none = [0u8; 1];
-    let ranges = [0.0f64; 68];
-    lattice_form(&none, values, vertices, &ranges, row, out)
+    lattice_form(&none, values, &values[0..0], vertices, row, out)
 }
 
 // The Type 4 builder of 000: it goes on from the last three vertices that it kept.

@@ -20,6 +20,15 @@ own-points-requires c κs = search needs
 slice-aggregate-patches : tie.Need-slice-aggregate-patches
 slice-aggregate-patches c = search needs
 
+sub-patches : tie.Need-sub-patches
+sub-patches c = search needs
+
+part-patches-start : tie.Need-part-patches-start
+part-patches-start c = search needs
+
+part-patches-end : tie.Need-part-patches-end
+part-patches-end c = search needs
+
 patches-requires : tie.Need-patches-requires
 patches-requires c κs =
     let c3 = c .before .before .before in
@@ -52,6 +61,9 @@ build-patches-spec =
     returns-2
     own-points-requires
     slice-aggregate-patches
+    sub-patches
+    part-patches-start
+    part-patches-end
     patches-requires
     same-length
     returns-3)

@@ -33,14 +33,11 @@ returns-3 c =
     let c2 = c1 .before in
     too-long _ _ _ _ (sym (c2 .before .mesh-layout-is-readable .ensures) ∙ not-false _ (c2 .if1 .left)) (c1 .if2 .left) (c .if3 .taken)
 
-fill-ranges-requires : tie.Need-fill-ranges-requires
-fill-ranges-requires c κs = search needs
-
 own-points-requires : tie.Need-own-points-requires
 own-points-requires c κs = search needs
 
-mul-t22 : tie.Need-mul-t22
-mul-t22 c = search needs
+mul-t19 : tie.Need-mul-t19
+mul-t19 c = search needs
 
 sub-patches : tie.Need-sub-patches
 sub-patches c = search needs
@@ -51,19 +48,20 @@ part-patches-start c = search needs
 part-patches-end : tie.Need-part-patches-end
 part-patches-end c = search needs
 
+-- past the refusals
+module _ (k : tie.After-own-points) where
+  abbrev start : tie.Start
+  start = k .before .before .before .before .before .before .before .before
+
+  readable : layoutReadable (start .args .coord) (start .args .comp) (Bits (start .args .flag)) (length (start .args .decode .now)) ≡ true
+  readable = sym (k .before .before .before .before .mesh-layout-is-readable .ensures) ∙ not-false _ (k .before .before .before .if1 .left)
+
 patches-requires : tie.Need-patches-requires
 patches-requires c κs =
-    let c3 = c .before .before .before in
-    let c6 = c3 .before .before .before in
-    let c7 = c6 .before in
-    let c8 = c7 .before in
-    let c9 = c8 .before in
-    let c13 = c9 .before .before .before .before in
-    let a = c13 .args in
-    let lay : layoutReadable (a .coord) (a .comp) (Bits (a .flag)) (length (a .decode .now)) ≡ true =
-    sym (c9 .mesh-layout-is-readable .ensures) ∙ not-false _ (c8 .if1 .left) in (
-      bits-there (a .form) _ _ _ _ _ _ _ _ (c3 .own-points .ensures) lay (c7 .if2 .left) (c6 .if3 .left),
-      table-suits Border (a .form) _ (c3 .own-points .ensures) (border-fits (a .form)),
+    let k = c .before .before in
+    let form = start k .args .form in (
+      bits-there form _ _ _ _ _ _ _ _ (k .own-points .ensures) (readable k) (k .before .before .if2 .left) (k .before .if3 .left),
+      table-suits Border form _ (k .own-points .ensures) (border-fits form),
     )
 
 same-length : tie.Need-same-length
@@ -71,19 +69,10 @@ same-length c = search needs
 
 returns-4 : tie.Need-returns-4
 returns-4 c =
-    let c2 = c .before .before in
-    let c6 = c2 .before .before .before .before in
-    let c7 = c6 .before in
-    let c9 = c7 .before .before in
-    let c10 = c9 .before in
-    let c11 = c10 .before in
-    let c12 = c11 .before in
-    let c16 = c12 .before .before .before .before in
-    let a = c16 .args in
-    let lay : layoutReadable (a .coord) (a .comp) (Bits (a .flag)) (length (a .decode .now)) ≡ true =
-    sym (c12 .mesh-layout-is-readable .ensures) ∙ not-false _ (c11 .if1 .left) in
-    rw (bits-outcome _ _ _ _ _ _ _ _ lay (c10 .if2 .left) (c9 .if3 .left) (a .form) _ (c6 .own-points .ensures)) at
-    (rw (c7 .fill-ranges .ensures) at (c2 .patches .ensures))
+    let called = c .before .before in
+    let k = called .before .before .before in
+    rw (bits-outcome _ _ _ _ _ _ _ _ (readable k) (k .before .before .if2 .left) (k .before .if3 .left) (start k .args .form) _ (k .own-points .ensures)) at
+    (called .patches .ensures)
 
 pub parse-patches-spec : {M : Type 1} → statement M
 parse-patches-spec =
@@ -93,9 +82,8 @@ parse-patches-spec =
     returns
     returns-2
     returns-3
-    fill-ranges-requires
     own-points-requires
-    mul-t22
+    mul-t19
     sub-patches
     part-patches-start
     part-patches-end

@@ -46,3 +46,7 @@ rangeList entries coord comp = joined kinds (λ (k : ℕ). ranges entries coord 
 -- the ranges that such a list holds
 abbrev pub heldRanges : List Float → Ranges
 heldRanges l kind = record { min = getD l (2 * kind) nan; scale = getD l (2 * kind + 1) nan }
+
+-- such a list, which held entry, once it is filled: with Decode's ranges for bits, while the numbers of a list need none
+abbrev pub filledRanges : Layout → List Float → List Float → List Float
+filledRanges L entries entry = cond (L .listed) entry (rangeList entries (L .coord) (L .comp))

@@ -18,6 +18,15 @@ vertices-in-requires c κs = (omega arith, omega arith, omega arith, omega arith
 slice-aggregate-free-form : tie.Need-slice-aggregate-free-form
 slice-aggregate-free-form c = search needs
 
+sub-free-form : tie.Need-sub-free-form
+sub-free-form c = search needs
+
+part-free-form-start : tie.Need-part-free-form-start
+part-free-form-start c = search needs
+
+part-free-form-end : tie.Need-part-free-form-end
+part-free-form-end c = search needs
+
 free-form-requires : tie.Need-free-form-requires
 free-form-requires c κs = let s = c .before .before .before .before .before .before .before .before in
     let e = c .before .before .before .vertices-in .ensures in
@@ -40,6 +49,9 @@ build-type4-spec =
     returns-2
     vertices-in-requires
     slice-aggregate-free-form
+    sub-free-form
+    part-free-form-start
+    part-free-form-end
     free-form-requires
     same-length
     returns-3)

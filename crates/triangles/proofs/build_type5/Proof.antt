@@ -18,6 +18,15 @@ vertices-in-requires c κs = (omega arith, omega arith, omega arith, omega arith
 slice-aggregate-lattice-form : tie.Need-slice-aggregate-lattice-form
 slice-aggregate-lattice-form c = search needs
 
+sub-lattice-form : tie.Need-sub-lattice-form
+sub-lattice-form c = search needs
+
+part-lattice-form-start : tie.Need-part-lattice-form-start
+part-lattice-form-start c = search needs
+
+part-lattice-form-end : tie.Need-part-lattice-form-end
+part-lattice-form-end c = search needs
+
 lattice-form-requires : tie.Need-lattice-form-requires
 lattice-form-requires c κs = let s = c .before .before .before .before .before .before .before .before in
     let e = c .before .before .before .vertices-in .ensures in
@@ -40,6 +49,9 @@ build-type5-spec =
     returns-2
     vertices-in-requires
     slice-aggregate-lattice-form
+    sub-lattice-form
+    part-lattice-form-start
+    part-lattice-form-end
     lattice-form-requires
     same-length
     returns-3)

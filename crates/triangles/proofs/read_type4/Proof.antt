@@ -28,9 +28,6 @@ vertices-in-requires c κs = let s = c .before .before .before .before .before .
     let w = layout-widths (Bits (s .args .flag)) (s .args .coord) (s .args .comp) _ (sym (c .before .before .before .mesh-layout-is-readable .ensures) ∙ not-false _ (c .before .before .if1 .left)) in
     (w .of-coord .some-bits, w .of-coord .few-bits, w .of-comp .few-bits, w .of-first .few-bits, c .before .if2 .left)
 
-fill-ranges-requires : tie.Need-fill-ranges-requires
-fill-ranges-requires c κs = search needs
-
 sub-free-form : tie.Need-sub-free-form
 sub-free-form c = search needs
 
@@ -41,19 +38,19 @@ part-free-form-end : tie.Need-part-free-form-end
 part-free-form-end c = search needs
 
 free-form-requires : tie.Need-free-form-requires
-free-form-requires c κs = let s = c .before .before .before .before .before .before .before .before .before .before .before .before .before in
-    let w = layout-widths (Bits (s .args .flag)) (s .args .coord) (s .args .comp) _ (sym (c .before .before .before .before .before .before .before .before .before .mesh-layout-is-readable .ensures) ∙ not-false _ (c .before .before .before .before .before .before .before .before .if1 .left)) in
-    let e = c .before .before .before .before .before .vertices-in .ensures in
-    let h = there-bits _ _ (s .args .coord) (s .args .comp) (s .args .flag) (s .args .n) (w .of-coord .some-bits) (w .of-coord .few-bits) (w .of-comp .some-bits) (w .of-comp .few-bits) (c .before .before .before .before .before .before .before .if2 .left) (c .before .before .before .before .before .before .if3 .left) in
+free-form-requires c κs = let s = c .before .before .before .before .before .before .before .before .before .before in
+    let w = layout-widths (Bits (s .args .flag)) (s .args .coord) (s .args .comp) _ (sym (c .before .before .before .before .before .before .mesh-layout-is-readable .ensures) ∙ not-false _ (c .before .before .before .before .before .if1 .left)) in
+    let e = c .before .before .vertices-in .ensures in
+    let h = there-bits _ _ (s .args .coord) (s .args .comp) (s .args .flag) (s .args .n) (w .of-coord .some-bits) (w .of-coord .few-bits) (w .of-comp .some-bits) (w .of-comp .few-bits) (c .before .before .before .before .if2 .left) (c .before .before .before .if3 .left) in
     (rw e h, rw e (record { some-bits = w .of-first .some-bits; few-bits = w .of-first .few-bits }))
 
 same-length : tie.Need-same-length
 same-length c = search needs
 
 returns-4 : tie.Need-returns-4
-returns-4 c = let s = c .before .before .before .before .before .before .before .before .before .before .before .before .before .before .before .before in
-    let e = c .before .before .before .before .before .before .before .before .vertices-in .ensures in
-    type4-ended _ _ (s .args .coord) (s .args .comp) _ (s .args .n) (c .before .before .before .before .before .before .before .before .before .before .if2 .left) (c .before .before .before .before .before .before .fill-ranges .ensures) (c .before .before .before .before .before .before .before .before .before .if3 .left) (s .args .flag) (sym (c .before .before .before .before .before .before .before .before .before .before .before .before .mesh-layout-is-readable .ensures) ∙ not-false _ (c .before .before .before .before .before .before .before .before .before .before .before .if1 .left)) (rw e at (c .before .before .free-form .ensures))
+returns-4 c = let s = c .before .before .before .before .before .before .before .before .before .before .before .before .before in
+    let e = c .before .before .before .before .before .vertices-in .ensures in
+    type4-ended _ _ (s .args .coord) (s .args .comp) _ (s .args .n) (c .before .before .before .before .before .before .before .if2 .left) (c .before .before .before .before .before .before .if3 .left) (s .args .flag) (sym (c .before .before .before .before .before .before .before .before .before .mesh-layout-is-readable .ensures) ∙ not-false _ (c .before .before .before .before .before .before .before .before .if1 .left)) (rw e at (c .before .before .free-form .ensures))
 
 pub read-type4-spec : {M : Type 1} → statement M
 read-type4-spec =
@@ -65,7 +62,6 @@ read-type4-spec =
     returns-3
     mul-vertices-in
     vertices-in-requires
-    fill-ranges-requires
     sub-free-form
     part-free-form-start
     part-free-form-end

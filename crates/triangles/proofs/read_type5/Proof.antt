@@ -29,9 +29,6 @@ vertices-in-requires c κs = let s = c .before .before .before .before .before .
     let w = layout-widths Absent (s .args .coord) (s .args .comp) _ (sym (c .before .before .before .mesh-layout-is-readable .ensures) ∙ not-false _ (c .before .before .if1 .left)) in
     (w .of-coord .some-bits, w .of-coord .few-bits, w .of-comp .few-bits, omega arith, c .before .if2 .left)
 
-fill-ranges-requires : tie.Need-fill-ranges-requires
-fill-ranges-requires c κs = search needs
-
 sub-lattice-form : tie.Need-sub-lattice-form
 sub-lattice-form c = search needs
 
@@ -42,19 +39,19 @@ part-lattice-form-end : tie.Need-part-lattice-form-end
 part-lattice-form-end c = search needs
 
 lattice-form-requires : tie.Need-lattice-form-requires
-lattice-form-requires c κs = let s = c .before .before .before .before .before .before .before .before .before .before .before .before .before in
-    let w = layout-widths Absent (s .args .coord) (s .args .comp) _ (sym (c .before .before .before .before .before .before .before .before .before .mesh-layout-is-readable .ensures) ∙ not-false _ (c .before .before .before .before .before .before .before .before .if1 .left)) in
-    let e = c .before .before .before .before .before .vertices-in .ensures in
-    let h = there-bits _ _ (s .args .coord) (s .args .comp) (0) (s .args .n) (w .of-coord .some-bits) (w .of-coord .few-bits) (w .of-comp .some-bits) (w .of-comp .few-bits) (c .before .before .before .before .before .before .before .if2 .left) (c .before .before .before .before .before .before .if3 .left) in
+lattice-form-requires c κs = let s = c .before .before .before .before .before .before .before .before .before .before in
+    let w = layout-widths Absent (s .args .coord) (s .args .comp) _ (sym (c .before .before .before .before .before .before .mesh-layout-is-readable .ensures) ∙ not-false _ (c .before .before .before .before .before .if1 .left)) in
+    let e = c .before .before .vertices-in .ensures in
+    let h = there-bits _ _ (s .args .coord) (s .args .comp) (0) (s .args .n) (w .of-coord .some-bits) (w .of-coord .few-bits) (w .of-comp .some-bits) (w .of-comp .few-bits) (c .before .before .before .before .if2 .left) (c .before .before .before .if3 .left) in
     rw e h
 
 same-length : tie.Need-same-length
 same-length c = search needs
 
 returns-4 : tie.Need-returns-4
-returns-4 c = let s = c .before .before .before .before .before .before .before .before .before .before .before .before .before .before .before .before in
-    let e = c .before .before .before .before .before .before .before .before .vertices-in .ensures in
-    type5-ended _ _ (s .args .coord) (s .args .comp) _ (s .args .n) (c .before .before .before .before .before .before .before .before .before .before .if2 .left) (c .before .before .before .before .before .before .fill-ranges .ensures) (c .before .before .before .before .before .before .before .before .before .if3 .left) (s .args .row) (sym (c .before .before .before .before .before .before .before .before .before .before .before .before .mesh-layout-is-readable .ensures) ∙ not-false _ (c .before .before .before .before .before .before .before .before .before .before .before .if1 .left)) (rw e at (c .before .before .lattice-form .ensures))
+returns-4 c = let s = c .before .before .before .before .before .before .before .before .before .before .before .before .before in
+    let e = c .before .before .before .before .before .vertices-in .ensures in
+    type5-ended _ _ (s .args .coord) (s .args .comp) _ (s .args .n) (c .before .before .before .before .before .before .before .if2 .left) (c .before .before .before .before .before .before .if3 .left) (s .args .row) (sym (c .before .before .before .before .before .before .before .before .before .mesh-layout-is-readable .ensures) ∙ not-false _ (c .before .before .before .before .before .before .before .before .if1 .left)) (rw e at (c .before .before .lattice-form .ensures))
 
 pub read-type5-spec : {M : Type 1} → statement M
 read-type5-spec =
@@ -66,7 +63,6 @@ read-type5-spec =
     returns-3
     mul-vertices-in
     vertices-in-requires
-    fill-ranges-requires
     sub-lattice-form
     part-lattice-form-start
     part-lattice-form-end
