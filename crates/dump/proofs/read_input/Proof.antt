@@ -9,10 +9,10 @@ use Rattle.dump.proofs.read_input.Statement.{statement}
 use Rattle.dump.proofs.read_input.Tie as tie
 
 abbrev Inv-loop : tie.InvT-loop
-Inv-loop file₀ at₀ turns₀ file at turns = (length file ≡ length file₀) × (at ≤ length file)
+Inv-loop fd file₀ at₀ turns₀ file at turns = (length file ≡ length file₀) × (at ≤ length file)
 
 abbrev μ-loop : tie.MeasureT-loop
-μ-loop file₀ at₀ turns₀ file at turns = turns
+μ-loop fd file₀ at₀ turns₀ file at turns = turns
 
 loop-holds : tie.Need-loop-holds Inv-loop μ-loop
 loop-holds c = search needs

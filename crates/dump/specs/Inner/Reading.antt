@@ -1,4 +1,4 @@
--- What came on standard input fits the buffer that it stands in.
+-- What came fits the buffer that it stands in.
 use Prim.Native.Nat.{ℕ, _≤_}
 use mathlib.Core.List.{List}
 use lib.ListN.{length}

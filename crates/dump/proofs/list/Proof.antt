@@ -1,11 +1,11 @@
--- `dump::main` is safe: what was read stands in the buffer, and the listing in its own. Assumes nothing.
+-- `dump::list` is safe: what was read stands in the buffer, and the listing in its own. Assumes nothing.
 use Prim.Native.Nat.{_≤_}
 use native.Mathlib.Omega.{arith}
 use borrow.Author.Needs.{needs}
 use lib.ListN.{length}
 use Rattle.lists.proofs.Writing.{written-length}
-use Rattle.dump.proofs.main.Statement.{statement}
-use Rattle.dump.proofs.main.Tie as tie
+use Rattle.dump.proofs.list.Statement.{statement}
+use Rattle.dump.proofs.list.Tie as tie
 
 slice-aggregate-read-input : tie.Need-slice-aggregate-read-input
 slice-aggregate-read-input c = search needs
@@ -18,9 +18,6 @@ enum-known-n c = search needs
 
 enum-told : tie.Need-enum-told
 enum-told c = search needs
-
-slice-aggregate-fail : tie.Need-slice-aggregate-fail
-slice-aggregate-fail c = search needs
 
 fail-requires : tie.Need-fail-requires
 fail-requires c κs = search needs
@@ -58,8 +55,8 @@ part-write-all-end c =
 write-all-requires : tie.Need-write-all-requires
 write-all-requires c κs = search needs
 
-slice-aggregate-fail-2 : tie.Need-slice-aggregate-fail-2
-slice-aggregate-fail-2 c = search needs
+slice-aggregate-fail : tie.Need-slice-aggregate-fail
+slice-aggregate-fail c = search needs
 
 fail-requires-2 : tie.Need-fail-requires-2
 fail-requires-2 c κs = search needs
@@ -70,15 +67,14 @@ returns-2 c = search needs
 returns-3 : tie.Need-returns-3
 returns-3 c = search needs
 
-pub main-spec : {M : Type 1} → statement M
-main-spec =
+pub list-spec : {M : Type 1} → statement M
+list-spec =
     tie.close
     (tie.spec
     slice-aggregate-read-input
     read-input-requires
     enum-known-n
     enum-told
-    slice-aggregate-fail
     fail-requires
     returns
     sub-list-file
@@ -89,7 +85,7 @@ main-spec =
     part-write-all-start
     part-write-all-end
     write-all-requires
-    slice-aggregate-fail-2
+    slice-aggregate-fail
     fail-requires-2
     returns-2
     returns-3)
