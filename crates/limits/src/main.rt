@@ -1,6 +1,6 @@
-// Document 01's last example, run: 32 components pass and 33 don't (COMPONENTS, 2), and an output that is exactly large enough passes
-// where one place less is refused (ROOM, 4). Each function is called on one record of zeros that starts a mesh: a triangle's three vertices
-// in Type 4, a patch in Type 7. All widths are 8 bits.
+// Document 01's last example, run: 32 components pass and 33 don't (COMPONENTS, 2), and an output that is exactly large enough passes where one place
+// less is refused (ROOM, 4), with the number of places that are needed as the count. Each function is called on one record of zeros that starts a mesh:
+// a triangle's three vertices in Type 4, a patch in Type 7. All widths are 8 bits.
 ghost use Prim.Native.Nat.{_≤_};
 use answers::Told;
 use libc::STDOUT_FILENO;
@@ -18,6 +18,7 @@ fn print_line(name: &[u8], n: usize, room: usize, told: Told) {
         print_number(b": wrote ", told.count);
     } else {
         print_number(b": refused ", told.refused);
+        print_number(b", count ", told.count);
     }
     io::write_all(STDOUT_FILENO, b"\n");
 }
