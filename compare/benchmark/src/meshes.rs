@@ -4,7 +4,8 @@
 use crate::stream;
 use crate::timing::{medians, summary};
 use rows::{Call, Source};
-use station::{build, parse, Kind, Layout, MeshKind, Reading, Refusal};
+use station::slices::{build, parse};
+use station::{Kind, Layout, MeshKind, Refusal};
 use std::hint::black_box;
 use std::process::Command;
 
@@ -137,14 +138,7 @@ fn measure_stream(kind: Kind, l: Layout, size: usize) -> Share {
         },
     };
     measure(kind, call, &mut |out| {
-        parse(
-            Reading::Ported,
-            mesh_kind(kind),
-            black_box(&data),
-            l,
-            &decode,
-            out,
-        )
+        parse(mesh_kind(kind), black_box(&data), l, &decode, out)
     })
 }
 
@@ -156,13 +150,7 @@ fn measure_list(kind: Kind, components: usize, size: usize) -> Share {
         source: Source::List(&values),
     };
     measure(kind, call, &mut |out| {
-        build(
-            Reading::Ported,
-            mesh_kind(kind),
-            black_box(&values),
-            components,
-            out,
-        )
+        build(mesh_kind(kind), black_box(&values), components, out)
     })
 }
 

@@ -3,7 +3,8 @@
 use crate::stream;
 use crate::timing::{medians, summary};
 use original::mesh_shading::BitReader;
-use station::{raw_read, raw_write, Kind, Layout};
+use station::slices::{raw_read, raw_write};
+use station::{Kind, Layout};
 use std::hint::black_box;
 
 /// The writer takes no longer list: document 01, LENGTH.

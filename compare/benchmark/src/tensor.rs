@@ -2,8 +2,8 @@
 
 use crate::stream;
 use crate::timing::{medians, summary};
-use station::{build, coons_to_tensor, coons_to_tensor_raw, raw_read};
-use station::{Kind, Layout, MeshKind, Reading};
+use station::slices::{build, coons_to_tensor, coons_to_tensor_raw, raw_read};
+use station::{Kind, Layout, MeshKind};
 use std::array;
 use std::cell::RefCell;
 use std::fmt::Debug;
@@ -167,7 +167,7 @@ fn row_list(n: usize, size: usize) -> Vec<f64> {
     let values = stream::numbers(Kind::Type6, n, size);
     // a record has 17 + 2 n numbers or more
     let mut rows = vec![0.0; values.len() / (17 + 2 * n) * row];
-    let count = build(Reading::Ported, MeshKind::Type6, &values, n, &mut rows).expect("readable");
+    let count = build(MeshKind::Type6, &values, n, &mut rows).expect("readable");
     rows.truncate(count.min(size / row) * row);
     rows
 }

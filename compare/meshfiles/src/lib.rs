@@ -32,9 +32,7 @@ impl Mesh<'_> {
         file.extend(self.row_length.to_be_bytes());
         file.push(self.decode.len() as u8);
         file.extend(self.decode.iter().flat_map(|x| x.to_bits().to_be_bytes()));
-        let mut data = [0u8; 1024];
-        let count = raw_write(self.kind, self.numbers, l, &mut data).expect("valid records");
-        file.extend(&data[..count]);
+        file.extend(raw_write(self.kind, self.numbers, l).expect("valid records"));
         file
     }
 }

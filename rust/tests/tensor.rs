@@ -1,6 +1,7 @@
 //! Coons patches turned into tensor patches, run through the archive.
 
-use station::{coons_to_tensor, coons_to_tensor_raw, parse, Layout, MeshKind, Reading, Refusal};
+use station::slices::{coons_to_tensor, coons_to_tensor_raw};
+use station::{build, parse, tensor, Layout, Refusal, Type6};
 
 /// A square of side 9 as a Type 6 border in stream order; its points stand three apart.
 const SQUARE: [u32; 24] = [
@@ -74,7 +75,7 @@ fn raw_refusals_in_their_order() {
     assert_eq!(refused(&list[..list.len() - 1], 1, 0), Refusal::Record);
     assert_eq!(refused(&broken, 1, 0), Refusal::Record);
     assert_eq!(refused(&joined, 1, 0), Refusal::Record);
-    assert_eq!(refused(&list, 1, 71), Refusal::Room);
+    assert_eq!(refused(&list, 1, 71), Refusal::Room { needed: 72 });
     assert_eq!(coons_to_tensor_raw(&list, 1, &mut out), Ok(2));
     assert_eq!(coons_to_tensor_raw(&[], 1, &mut []), Ok(0));
 }
@@ -89,25 +90,68 @@ fn what_a_reader_answers_is_turned() {
         components: 1,
     };
     let decode = [0.0, 255.0, 0.0, 255.0, 0.0, 255.0];
-    let mut patches = [0.0; 2 * 60];
-    let kind = MeshKind::Type6;
-    assert_eq!(
-        parse(Reading::Ported, kind, &bytes, layout, &decode, &mut patches),
-        Ok(2)
-    );
+    let coons = parse(Type6, &bytes, layout, &decode).expect("two patches");
+    let patches = coons.numbers();
     let mut out = [7.0; 2 * 68 + 1];
     assert_eq!(
-        coons_to_tensor(&patches, 1, &mut out[..135]),
-        Err(Refusal::Room)
+        coons_to_tensor(patches, 1, &mut out[..135]),
+        Err(Refusal::Room { needed: 136 })
     );
     assert_eq!(out, [7.0; 137]);
-    assert_eq!(coons_to_tensor(&patches, 1, &mut out), Ok(2));
+    assert_eq!(coons_to_tensor(patches, 1, &mut out), Ok(2));
     for (before, after) in patches.chunks(60).zip(out.chunks(68)) {
         assert_eq!(after[..24], before[..24]);
         assert_eq!(after[32..], before[24..]);
     }
     assert_eq!(out[24..32], INNER.map(f64::from));
     assert_eq!(out[136], 7.0);
+    assert_eq!(tensor(&coons).numbers(), &out[..136]);
+}
+
+/// So many patches, each with numbers of its own.
+fn counted(patches: usize, n: usize) -> Vec<f64> {
+    let patch = |i: usize| {
+        let rest = (0..24 + 4 * n).map(move |k| (i + k * k) as f64);
+        std::iter::once(0.0).chain(rest)
+    };
+    (0..patches).flat_map(patch).collect()
+}
+
+#[test]
+fn a_mesh_longer_than_a_call_takes_is_turned_in_parts() {
+    // a row has 56 numbers, or 68, and a call takes 18,724 of them, or 15,420
+    for (patches, n) in [
+        (18_724, 0),
+        (18_725, 0),
+        (40_000, 0),
+        (15_420, 3),
+        (15_421, 3),
+    ] {
+        let coons = build(Type6, &counted(patches, n), n).expect("patches");
+        let turned = tensor(&coons);
+        assert_eq!((turned.len(), turned.components()), (patches, n));
+        let size = coons.numbers().len() / patches;
+        let mut alone = vec![0.0; size + 8];
+        for (row, patch) in coons
+            .numbers()
+            .chunks(size)
+            .zip(turned.numbers().chunks(size + 8))
+        {
+            assert_eq!(coons_to_tensor(row, n, &mut alone), Ok(1));
+            assert_eq!(patch, alone);
+        }
+    }
+}
+
+#[test]
+fn patches_of_the_most_components_are_turned() {
+    let coons = build(Type6, &counted(2, 32), 32).expect("two patches");
+    let turned = tensor(&coons);
+    for (before, after) in coons.iter().zip(&turned) {
+        assert_eq!(before.points()[..], after.points()[..12]);
+        assert_eq!(before.colours(), after.colours());
+    }
+    assert_eq!((turned.len(), turned.components()), (2, 32));
 }
 
 #[test]
@@ -138,6 +182,6 @@ fn refusals_of_rows_in_their_order() {
     assert_eq!(refused(&long, 0, 0), Refusal::Length);
     assert_eq!(refused(&long[..57], 0, 0), Refusal::Record);
     assert_eq!(refused(&long[..56], 1, 64), Refusal::Record);
-    assert_eq!(refused(&long[..56], 0, 63), Refusal::Room);
+    assert_eq!(refused(&long[..56], 0, 63), Refusal::Room { needed: 64 });
     assert_eq!(coons_to_tensor(&[], 32, &mut []), Ok(0));
 }

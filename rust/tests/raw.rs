@@ -1,6 +1,7 @@
 //! Document 01's examples of the raw readers and writers, run through the archive.
 
-use station::{raw_read, raw_write, Kind, Layout, Refusal};
+use station::slices::{raw_read, raw_write};
+use station::{Kind, Layout, Refusal};
 
 fn layout(coordinate: usize, component: usize, flag: usize, components: usize) -> Layout {
     Layout {
@@ -48,7 +49,7 @@ fn exactly_enough_room_and_one_place_less() {
     let bytes = [0x25, 0xBC];
     assert_eq!(
         raw_read(Kind::Type4, &bytes, layout(4, 4, 2, 1), &mut numbers[..3]),
-        Err(Refusal::Room)
+        Err(Refusal::Room { needed: 4 })
     );
     assert_eq!(numbers, [5; 4]);
     assert_eq!(
@@ -63,7 +64,7 @@ fn exactly_enough_room_and_one_place_less() {
             layout(4, 4, 2, 1),
             &mut out[..1]
         ),
-        Err(Refusal::Room)
+        Err(Refusal::Room { needed: 2 })
     );
     assert_eq!(out, [5; 2]);
 }
