@@ -26,7 +26,7 @@ back Thin = refl
 back File = refl
 
 -- no refusal has the number 0, which stands for an accepted call
-not-zero : (r : Refusal) → numberOf r ≡ 0 → ⊥
+pub not-zero : (r : Refusal) → numberOf r ≡ 0 → ⊥
 not-zero Layout e = omega arith
 not-zero Components e = omega arith
 not-zero Length e = omega arith
