@@ -1,6 +1,7 @@
 //! Times the proved library against the original, or a plain version where the original has none, on the same input in one run. Figures are ratios
 //! of medians of interleaved runs: under 1 is faster than the other. Outputs are touched once before.
 
+mod asking;
 mod meshes;
 mod raw;
 mod stream;
@@ -14,11 +15,13 @@ fn main() {
             meshes::print();
             raw::print();
             tensor::print();
+            asking::print();
         }
         Some("meshes") => meshes::print(),
         Some("raw") => raw::print(),
         Some("tensor") => tensor::print(),
+        Some("asking") => asking::print(),
         Some("input") => meshes::print_input(&words[1..]),
-        Some(other) => panic!("benchmark [meshes|raw|tensor], not {other}"),
+        Some(other) => panic!("benchmark [meshes|raw|tensor|asking], not {other}"),
     }
 }

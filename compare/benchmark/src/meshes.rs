@@ -9,7 +9,7 @@ use station::{Kind, Layout, MeshKind, Refusal};
 use std::hint::black_box;
 use std::process::Command;
 
-const KINDS: [Kind; 4] = [Kind::Type4, Kind::Type5, Kind::Type6, Kind::Type7];
+pub const KINDS: [Kind; 4] = [Kind::Type4, Kind::Type5, Kind::Type6, Kind::Type7];
 
 /// Widths of coordinate, component and flag.
 const WIDTHS: [(usize, usize, usize); 5] =
@@ -50,7 +50,7 @@ struct Share {
     copy: f64,
 }
 
-fn mesh_kind(kind: Kind) -> MeshKind {
+pub fn mesh_kind(kind: Kind) -> MeshKind {
     match kind {
         Kind::Type4 => MeshKind::Type4,
         Kind::Type5 => MeshKind::Type5 {
