@@ -48,17 +48,17 @@ pub enum Refusal {
 }
 
 impl Refusal {
-    /// The refusal of a number that the archive answers; `count` is what it tells beside it.
+    /// The refusal of a number that the archive answers; `count` is what it tells beside it, and is 0 for all but ROOM.
     pub(crate) fn numbered(number: u64, count: usize) -> Self {
-        match number {
-            1 => Refusal::Layout,
-            2 => Refusal::Components,
-            3 => Refusal::Length,
-            4 => Refusal::Room { needed: count },
-            5 => Refusal::Record,
-            6 => Refusal::Thin,
-            7 => Refusal::File,
-            _ => unreachable!("the library answers only document 01's numbers"),
+        match (number, count) {
+            (1, 0) => Refusal::Layout,
+            (2, 0) => Refusal::Components,
+            (3, 0) => Refusal::Length,
+            (4, needed) => Refusal::Room { needed },
+            (5, 0) => Refusal::Record,
+            (6, 0) => Refusal::Thin,
+            (7, 0) => Refusal::File,
+            _ => unreachable!("the library answers document 01's numbers, and a count beside ROOM alone: {number}, {count}"),
         }
     }
 
@@ -123,3 +123,33 @@ impl fmt::Display for Refusal {
 }
 
 impl Error for Refusal {}
+
+#[cfg(test)]
+mod tests {
+    use super::Refusal;
+    use std::panic::catch_unwind;
+
+    #[test]
+    fn a_number_with_its_count_is_one_refusal() {
+        for number in 1..=7 {
+            assert_eq!(Refusal::numbered(number, 0).number(), number);
+        }
+        assert_eq!(Refusal::numbered(4, 66), Refusal::Room { needed: 66 });
+    }
+
+    #[test]
+    fn other_numbers_and_a_count_beside_another_refusal_are_none() {
+        for (number, count) in [
+            (0, 0),
+            (8, 0),
+            (1, 1),
+            (2, 1),
+            (3, 1),
+            (5, 1),
+            (6, 1),
+            (7, 1),
+        ] {
+            assert!(catch_unwind(|| Refusal::numbered(number, count)).is_err());
+        }
+    }
+}
