@@ -35,8 +35,19 @@ pub struct Case {
 #[derive(Clone, Debug)]
 pub struct Answer {
     pub refused: u8,
+    /// How many triangles or patches were written; for a refusal with ROOM, how many numbers are needed; for any other, 0.
     pub count: usize,
     pub output: Vec<f64>,
+}
+
+impl Answer {
+    /// How many triangles or patches were written.
+    pub fn written(&self) -> usize {
+        match self.refused {
+            0 => self.count,
+            _ => 0,
+        }
+    }
 }
 
 impl Case {
@@ -113,17 +124,17 @@ impl Case {
 
     pub fn answer(&self) -> Answer {
         let mut output = vec![FILLER; self.room];
-        let refusal = |refused: u8, output: Vec<f64>| Answer {
+        let refusal = |refused: u8, count: usize, output: Vec<f64>| Answer {
             refused,
-            count: 0,
+            count,
             output,
         };
         if let Some(refused) = self.refused_at_once() {
-            return refusal(refused, output);
+            return refusal(refused, 0, output);
         }
         let (count, numbers) = self.original();
         if numbers.len() > self.room {
-            return refusal(4, output);
+            return refusal(4, numbers.len(), output);
         }
         output[..numbers.len()].copy_from_slice(&numbers);
         Answer {

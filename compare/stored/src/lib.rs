@@ -13,7 +13,7 @@
 //! - Decode has 4 to 2n + 4 entries. It and the lists have odd numbers among them: NaN, infinities, -0.0, denormal and huge ones.
 //! - About half of the inputs are then damaged: cut, longer, with other bits or other numbers.
 //! - About one case in ten is one that document 01 refuses with LAYOUT or COMPONENTS. The output has exactly enough room, more, one
-//!   place less, or far less.
+//!   place less, or far less; with less, the count is that of the numbers needed.
 //! - A case that needs more than 4,056 numbers is drawn again.
 //!
 //! `one-wrong` has a case of each function, and in one of them a number of the answer differs in its last bit. `cut` ends inside its
@@ -65,7 +65,7 @@ pub fn files() -> Vec<(&'static str, Vec<u8>)> {
     for (name, kind, is_listed) in FUNCTIONS {
         let cases = cases(kind, is_listed);
         files.push((name, joined(&cases)));
-        full.extend(cases.into_iter().find(|case| case.answer().count > 1));
+        full.extend(cases.into_iter().find(|case| case.answer().written() > 1));
     }
     files.push(("one-wrong", one_wrong(&full)));
     files.push(("cut", cut(&full)));

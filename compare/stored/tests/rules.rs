@@ -41,7 +41,7 @@ fn a_mesh_of_thin_vertices_is_met() {
             flag + 2 * xy + n * component
         };
         let cases = cases(kind, is_listed);
-        let mut meshes = cases.iter().filter(|case| case.answer().count > 0);
+        let mut meshes = cases.iter().filter(|case| case.answer().written() > 0);
         assert!(is_listed || meshes.any(|case| bits(case) < 8), "{name}");
     }
 }
@@ -53,14 +53,31 @@ fn every_refusal_and_every_room_is_met() {
         let refusals: BTreeSet<u8> = cases.iter().map(|case| case.answer().refused).collect();
         let expected: &[u8] = if is_listed { &[0, 2, 4] } else { &[0, 1, 2, 4] };
         assert!(refusals.iter().eq(expected), "{name}: {refusals:?}");
-        let meshes = || cases.iter().filter(|case| case.answer().count > 0);
+        let meshes = || cases.iter().filter(|case| case.answer().written() > 0);
         assert!(meshes().any(|case| case.needed() == case.room), "{name}");
         assert!(meshes().any(|case| case.needed() < case.room), "{name}");
-        assert!(meshes().any(|case| case.answer().count > 2), "{name}");
+        assert!(meshes().any(|case| case.answer().written() > 2), "{name}");
         assert!(
             cases.iter().any(|case| case.needed() == case.room + 1),
             "{name}"
         );
+    }
+}
+
+#[test]
+fn a_refusal_tells_the_numbers_needed_for_room_alone() {
+    for (name, kind, is_listed) in FUNCTIONS {
+        for case in cases(kind, is_listed) {
+            let answer = case.answer();
+            match answer.refused {
+                0 => assert!(case.needed() <= case.room, "{name}"),
+                4 => assert!(
+                    answer.count == case.needed() && answer.count > case.room,
+                    "{name}"
+                ),
+                _ => assert_eq!(answer.count, 0, "{name}"),
+            }
+        }
     }
 }
 
