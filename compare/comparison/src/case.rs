@@ -1,4 +1,4 @@
-//! A case: one call of a mesh function, with the room that is lent to it.
+//! A case: what a mesh function is asked, with the room that is lent to it.
 
 use crate::record::{packed, raw_reading};
 use crate::reshape::{without_a_component, without_a_record};
@@ -25,7 +25,7 @@ pub enum Input {
     List(Vec<f64>),
 }
 
-/// The room lent, as places fewer or more than the answer needs.
+/// A room that is lent besides those that every case is asked with, as places fewer or more than the answer needs.
 #[derive(Clone, Copy, Debug, PartialEq)]
 pub enum Room {
     Short(usize),
@@ -33,8 +33,8 @@ pub enum Room {
 }
 
 impl Room {
+    /// No other room.
     pub const EXACT: Room = Room::Beyond(0);
-    pub const NONE: Room = Room::Short(usize::MAX);
 
     pub fn places(self, needed: usize) -> usize {
         match self {

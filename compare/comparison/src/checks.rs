@@ -1,22 +1,23 @@
-//! Checks an answer and the lent output of a mesh function against the original and document 01's table.
+//! Checks the answers and the lent outputs of a mesh function against the original and document 01's table.
 //!
 //! The original is run for every case but those that the table refuses with COMPONENTS or LENGTH: it would read them, and it multiplies and
 //! allocates by the count of components. Of those only the refusal and the unchanged output are checked.
 
+use crate::asking::Whole;
 use crate::case::{plain, Case, Input, Origin};
-use crate::lent::{Lent, Place};
-use crate::library::Library;
+use crate::lent::{first_other, Lent, Place};
+use crate::library::{Answer, Library, Reading};
 use crate::record::{is_patched, mesh_flags, raw_reading};
 use rows::same_number;
-use station::{Kind, Reading, Refusal};
+use station::{Kind, Refusal};
 use std::fmt;
 
 /// What a case should give.
 pub struct Expected {
-    pub answer: Result<usize, Refusal>,
-    pub room: usize,
+    /// The count of triangles or patches, or the refusal that comes before ROOM.
+    pub count: Result<usize, Refusal>,
     pub is_by_original: bool,
-    /// The original's numbers, where the answer is a count.
+    /// The original's numbers; a refused call has none.
     rows: Vec<f64>,
     /// The flag of each triangle of a Type 4 list, or of each patch; others need none.
     flags: Option<Vec<u32>>,
@@ -31,8 +32,7 @@ impl Expected {
                 "the original reads a layout that document 01 refuses:\n{case}"
             );
             return Expected {
-                answer: Err(refusal),
-                room: case.room.places(0),
+                count: Err(refusal),
                 is_by_original,
                 rows: Vec::new(),
                 flags: None,
@@ -40,14 +40,8 @@ impl Expected {
         }
         let (count, rows) = case.original();
         assert_eq!(rows.len(), count * case.stride(), "rows of\n{case}");
-        let room = case.room.places(rows.len());
         Expected {
-            answer: if rows.len() > room {
-                Err(Refusal::Room)
-            } else {
-                Ok(count)
-            },
-            room,
+            count: Ok(count),
             is_by_original: true,
             flags: flags(case),
             rows,
@@ -78,9 +72,11 @@ pub struct Fault {
     pub ours: String,
     /// The answer, where it is as it should be.
     pub answer: Option<String>,
+    /// How many places were lent.
+    pub lent: Option<usize>,
 }
 
-fn answer_text(answer: Result<usize, Refusal>) -> String {
+fn answer_text(answer: Answer) -> String {
     match answer {
         Ok(count) => format!("accepted, {count}"),
         Err(refusal) => format!("refused {} ({refusal:?})", refusal.number()),
@@ -88,30 +84,42 @@ fn answer_text(answer: Result<usize, Refusal>) -> String {
 }
 
 impl Fault {
-    pub fn of_answer(expected: Result<usize, Refusal>, ours: Result<usize, Refusal>) -> Self {
+    pub fn new(place: String, expected: String, ours: String) -> Self {
         Fault {
-            place: "the answer".into(),
-            expected: answer_text(expected),
-            ours: answer_text(ours),
+            place,
+            expected,
+            ours,
             answer: None,
+            lent: None,
         }
     }
 
+    pub fn of_answer(expected: Answer, ours: Answer) -> Self {
+        Fault::new(
+            "the answer".into(),
+            answer_text(expected),
+            answer_text(ours),
+        )
+    }
+
     /// The fault of a call whose answer is right.
-    pub fn after(self, answer: Result<usize, Refusal>) -> Self {
+    pub fn after(self, answer: Answer) -> Self {
         Fault {
             answer: Some(answer_text(answer)),
             ..self
         }
     }
 
-    pub fn of_bits(place: String, expected: u64, ours: u64) -> Self {
+    /// The fault of a call that was lent so many places.
+    pub fn with(self, places: usize) -> Self {
         Fault {
-            place,
-            expected: format!("{expected:016x}"),
-            ours: format!("{ours:016x}"),
-            answer: None,
+            lent: Some(places),
+            ..self
         }
+    }
+
+    pub fn of_bits(place: String, expected: u64, ours: u64) -> Self {
+        Fault::new(place, format!("{expected:016x}"), format!("{ours:016x}"))
     }
 
     /// The first place that was to be left alone and has changed.
@@ -132,6 +140,9 @@ impl Fault {
 
 impl fmt::Display for Fault {
     fn fmt(&self, f: &mut fmt::Formatter<'_>) -> fmt::Result {
+        if let Some(places) = self.lent {
+            writeln!(f, "  places lent: {places}")?;
+        }
         if let Some(answer) = &self.answer {
             writeln!(f, "  both answer: {answer}")?;
         }
@@ -149,37 +160,29 @@ pub fn check(
     library: &dyn Library,
     lent: &mut Lent<f64>,
 ) -> Result<usize, Fault> {
-    let answer = lent.lend(expected.room, |out| library.mesh(reading, case, out));
-    if answer != expected.answer {
-        return Err(Fault::of_answer(expected.answer, answer));
-    }
-    check_output(case, reading, expected, lent).map_err(|fault| fault.after(answer))
+    let whole = Whole {
+        count: expected.count,
+        numbers: &expected.rows,
+    };
+    let call = |out: &mut [f64]| library.mesh(reading, case, out);
+    whole.ask(case.room, lent, call, |ours| {
+        check_count(expected)?;
+        check_rows(case, reading, expected, ours)?;
+        check_joins(case, reading, expected, ours)
+    })?;
+    Ok(expected.rows.len())
 }
 
-/// Holds the lent output of a call with the right answer against what it should be.
-fn check_output(
-    case: &Case,
-    reading: Reading,
-    expected: &Expected,
-    lent: &Lent<f64>,
-) -> Result<usize, Fault> {
-    let Ok(count) = expected.answer else {
-        Fault::beyond(lent, 0)?;
-        return Ok(0);
-    };
-    if let Some(flags) = expected.flags.as_ref().filter(|f| f.len() != count) {
-        return Err(Fault {
-            place: "the count, by document 01's rule for flags".into(),
-            expected: flags.len().to_string(),
-            ours: count.to_string(),
-            answer: None,
-        });
+/// Holds the count against document 01's rule for flags.
+fn check_count(expected: &Expected) -> Result<(), Fault> {
+    match (expected.count, &expected.flags) {
+        (Ok(count), Some(flags)) if flags.len() != count => Err(Fault::new(
+            "the count, by document 01's rule for flags".into(),
+            flags.len().to_string(),
+            count.to_string(),
+        )),
+        _ => Ok(()),
     }
-    let written = expected.rows.len();
-    check_rows(case, reading, expected, lent.written(written))?;
-    check_joins(case, reading, expected, lent.written(written))?;
-    Fault::beyond(lent, written)?;
-    Ok(written)
 }
 
 /// Holds our rows against the original's: copies bit for bit, computed NaNs as one.
@@ -190,7 +193,9 @@ fn check_rows(
     ours: &[f64],
 ) -> Result<(), Fault> {
     let stride = case.stride();
-    for (i, (&a, &b)) in expected.rows.iter().zip(ours).enumerate() {
+    let first = first_other(&expected.rows, ours).unwrap_or(ours.len());
+    let pairs = expected.rows.iter().zip(ours).enumerate().skip(first);
+    for (i, (&a, &b)) in pairs {
         if a.to_bits() == b.to_bits() {
             continue;
         }

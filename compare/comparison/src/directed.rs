@@ -10,13 +10,8 @@ use crate::report::{Bench, KINDS};
 use generator::Generator;
 use station::{Kind, Layout, MeshKind};
 
-pub const ROOMS: [Room; 5] = [
-    Room::EXACT,
-    Room::Short(1),
-    Room::Beyond(1),
-    Room::Beyond(23),
-    Room::NONE,
-];
+/// Less and more room than every case is asked with.
+pub const ROOMS: [Room; 3] = [Room::Short(2), Room::Beyond(1), Room::Beyond(23)];
 
 pub fn jobs() -> Vec<Job> {
     let mut jobs: Vec<Job> = Vec::new();
@@ -199,7 +194,8 @@ fn colours(bench: &mut Bench<'_>) {
     }
 }
 
-/// Inputs of just the allowed length and one longer, alone and with other reasons to refuse. The data give few triangles or patches, or none.
+/// Inputs of just the allowed length and one longer, alone and with other reasons to refuse. The data give few triangles or patches, or none;
+/// but a lattice has no flags, so that all of it is there, whatever it is filled with.
 fn longest_inputs(kind: Kind, bench: &mut Bench<'_>) {
     let mut random = Generator::new(MOST_BYTES as u64);
     let layout = Layout {
@@ -208,46 +204,50 @@ fn longest_inputs(kind: Kind, bench: &mut Bench<'_>) {
         flag: 32,
         components: 32,
     };
-    for (length, fill) in [(MOST_BYTES, 0), (MOST_BYTES, 5), (MOST_BYTES + 1, 5)] {
-        let mut case = of_bytes(kind, layout, vec![0.0, 1.0, 0.0, 1.0], vec![fill; length]);
-        bench.mesh(&case);
-        case.room = Room::Short(1);
-        bench.mesh(&case);
-        case.room = Room::Beyond(3);
-        for components in [33, usize::MAX] {
-            case.layout.components = components;
-            bench.mesh(&case);
+    let (bytes, numbers): (&[u8], &[f64]) = if is_flagged(kind) {
+        (&[0, 5], &[0.0, 1.0, 5.0])
+    } else {
+        (&[5], &[5.0])
+    };
+    for more in [0, 1] {
+        for &byte in bytes {
+            longest_bytes(kind, layout, vec![byte; MOST_BYTES + more], bench);
         }
-        case.layout.coordinate = 33;
-        bench.mesh(&case);
-    }
-    for length in [MOST_NUMBERS, MOST_NUMBERS + 1] {
-        for value in [0.0, 1.0, 5.0] {
-            let mut case = of_list(kind, 3, vec![value; length]);
-            bench.mesh(&case);
-            case.room = Room::Short(1);
+        for &number in numbers {
+            let mut case = of_list(kind, 3, vec![number; MOST_NUMBERS + more]);
             bench.mesh(&case);
             case.layout.components = 33;
             bench.mesh(&case);
         }
-        let decode: Vec<f64> = (0..length).map(|i| i as f64).collect();
+        let decode = (0..MOST_NUMBERS + more).map(|i| i as f64).collect();
         let data = draw::bytes(kind, wide(4), &mut random);
         bench.mesh(&of_bytes(kind, wide(4), decode, data));
     }
     longest_raw(kind, layout, bench);
 }
 
+/// Bytes alone, then with more components than are allowed, then with a wrong width too.
+fn longest_bytes(kind: Kind, layout: Layout, data: Vec<u8>, bench: &mut Bench<'_>) {
+    let mut case = of_bytes(kind, layout, vec![0.0, 1.0, 0.0, 1.0], data);
+    bench.mesh(&case);
+    case.room = Room::Beyond(3);
+    for components in [33, usize::MAX] {
+        case.layout.components = components;
+        bench.mesh(&case);
+    }
+    case.layout.coordinate = 33;
+    bench.mesh(&case);
+}
+
 /// The same for the raw readers and writers.
 fn longest_raw(kind: Kind, layout: Layout, bench: &mut Bench<'_>) {
     for length in [MOST_BYTES, MOST_BYTES + 1] {
-        for room in [Room::EXACT, Room::Short(1)] {
-            bench.raw(&RawCase {
-                kind,
-                layout,
-                task: Task::Read(vec![0; length]),
-                room,
-            });
-        }
+        bench.raw(&RawCase {
+            kind,
+            layout,
+            task: Task::Read(vec![0; length]),
+            room: Room::EXACT,
+        });
     }
     for (length, coordinate, components) in [
         (MOST_NUMBERS, 8, 0),
@@ -308,7 +308,7 @@ fn writers(kind: Kind, bench: &mut Bench<'_>) {
                 for value in [0, 1, 3, 4, 5, 255, 256, 511, 512, u32::MAX >> 1, u32::MAX] {
                     let mut list = plain.clone();
                     list[place] = value;
-                    run(list, Room::NONE);
+                    run(list, Room::Short(2));
                 }
             }
         }

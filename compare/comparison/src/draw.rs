@@ -462,13 +462,11 @@ pub fn decode(l: Layout, random: &mut Generator) -> Vec<f64> {
     list
 }
 
-/// Exactly enough, more, one place less, less, or none.
+/// More than enough, less than one place less, or no other room than every case is asked with.
 fn room(random: &mut Generator) -> Room {
     match random.within(0, 15) {
-        0..=9 => Room::EXACT,
-        10..=12 => Room::Beyond(random.within(1, 40)),
-        13 => Room::Short(1),
-        14 => Room::Short(random.within(2, 200)),
-        _ => Room::NONE,
+        0..=2 => Room::Beyond(random.within(1, 40)),
+        3..=5 => Room::Short(random.within(2, 200)),
+        _ => Room::EXACT,
     }
 }

@@ -1,10 +1,12 @@
 //! Holds the proved library against the unchanged original, case by case and number by number; what the original doesn't have, against its rules.
+//! Each case is asked with no output first, then with one place less than the answer needs and with just enough, some with another room too.
 //!
 //! - `comparison quick`: the directed and exhaustive cases and a fixed count of random ones, by a fixed seed.
 //! - `comparison long [MINUTESm | CASES] [SEED]`: the same, and random cases for so many minutes, or so many of them.
 //!
 //! A disagreement is shrunk and printed, and the exit status tells of it.
 
+mod asking;
 mod case;
 mod checks;
 mod directed;
@@ -17,6 +19,8 @@ mod raw;
 mod record;
 mod report;
 mod reshape;
+#[cfg(test)]
+mod room_tests;
 mod run;
 mod shrink;
 mod surface;

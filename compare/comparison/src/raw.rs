@@ -1,11 +1,12 @@
 //! The raw readers and writers: held against the original's bit reader, a packing of our own and document 01's table; what a writer accepts
 //! is read back, whole and cut.
 
+use crate::asking::Whole;
 use crate::case::{
     has_a_wrong_width, hex_bytes, text, Room, MOST_BYTES, MOST_COMPONENTS, MOST_NUMBERS,
 };
 use crate::checks::Fault;
-use crate::lent::{Lent, Place};
+use crate::lent::{first_other, Lent, Place};
 use crate::library::Library;
 use crate::record::{breaks_a_rule, is_patched, packed, raw_reading, vertex_bits};
 use crate::shrink::{smaller_layouts, smaller_lists, Shrinks};
@@ -21,7 +22,7 @@ pub enum Task {
     Write(Vec<u32>),
 }
 
-/// A call of a raw reader or writer.
+/// What a raw reader or writer is asked.
 #[derive(Clone, Debug)]
 pub struct RawCase {
     pub kind: Kind,
@@ -75,76 +76,68 @@ impl RawCase {
         }
     }
 
+    /// Whether what is written is read back. That takes long, so cases that are about a short room go without.
+    fn is_read_back(&self) -> bool {
+        !matches!(self.room, Room::Short(_))
+    }
+
     pub fn check(&self, library: &dyn Library, lent: &mut RawLent) -> Result<RawAgreed, Fault> {
         let (kind, l) = (self.kind, self.layout);
         let at_once = self.refused_at_once();
-        match &self.task {
+        let numbers = match &self.task {
             Task::Read(data) => {
                 let full = match at_once {
                     Some(_) => Vec::new(),
                     None => raw_reading(kind, l, data),
                 };
-                check_call(self.room, at_once, &full, &mut lent.numbers, |out| {
-                    library.raw_read(kind, data, l, out)
-                })
+                let call = |out: &mut [u32]| library.raw_read(kind, data, l, out);
+                let check = |ours: &[u32]| check_places(&full, ours);
+                whole(at_once, &full).ask(self.room, &mut lent.numbers, call, check)?;
+                full.len()
             }
             Task::Write(list) => {
                 let full = match at_once {
                     Some(_) => Vec::new(),
                     None => packed(kind, l, list),
                 };
-                let mut agreed = check_call(self.room, at_once, &full, &mut lent.bytes, |out| {
-                    library.raw_write(kind, list, l, out)
-                })?;
-                if !agreed.is_refused {
-                    let bytes = lent.bytes.written(full.len());
-                    agreed.numbers +=
-                        check_reading_back(self, list, bytes, library, &mut lent.numbers)?;
-                }
-                Ok(agreed)
+                let call = |out: &mut [u8]| library.raw_write(kind, list, l, out);
+                let check = |ours: &[u8]| check_places(&full, ours);
+                whole(at_once, &full).ask(self.room, &mut lent.bytes, call, check)?;
+                let read_back = if at_once.is_none() && self.is_read_back() {
+                    check_reading_back(self, list, &full, library, &mut lent.numbers)?
+                } else {
+                    0
+                };
+                full.len() + read_back
             }
-        }
+        };
+        Ok(RawAgreed {
+            numbers,
+            is_refused: at_once.is_some(),
+        })
     }
 }
 
-/// Holds a call's answer and output against what it should give: a refusal, or all of these numbers if there is room.
-fn check_call<T: Place>(
-    room: Room,
-    at_once: Option<Refusal>,
-    full: &[T],
-    lent: &mut Lent<T>,
-    call: impl FnOnce(&mut [T]) -> Result<usize, Refusal>,
-) -> Result<RawAgreed, Fault> {
-    let places = room.places(full.len());
-    let expected = match at_once {
-        Some(refusal) => Err(refusal),
-        None if full.len() > places => Err(Refusal::Room),
-        None => Ok(full.len()),
-    };
-    let answer = lent.lend(places, call);
-    if answer != expected {
-        return Err(Fault::of_answer(expected, answer));
+/// What a call should give: a refusal, or all of these numbers.
+fn whole<T>(at_once: Option<Refusal>, full: &[T]) -> Whole<'_, T> {
+    Whole {
+        count: at_once.map_or(Ok(full.len()), Err),
+        numbers: full,
     }
-    let numbers = answer.unwrap_or(0);
-    check_places(full, numbers, lent).map_err(|fault| fault.after(answer))?;
-    Ok(RawAgreed {
-        numbers,
-        is_refused: answer.is_err(),
-    })
 }
 
-/// Holds the first so many places against what they should be, and the others against what they were.
-fn check_places<T: Place>(full: &[T], written: usize, lent: &Lent<T>) -> Result<(), Fault> {
-    for (i, (a, b)) in full.iter().zip(lent.written(written)).enumerate() {
-        if a.bits() != b.bits() {
+/// Holds the numbers written against what they should be.
+fn check_places<T: Place>(full: &[T], ours: &[T]) -> Result<(), Fault> {
+    match first_other(full, ours) {
+        None => Ok(()),
+        Some(i) => {
             let place = format!("place {i} of the output");
-            return Err(Fault::of_bits(place, a.bits(), b.bits()));
+            Err(Fault::of_bits(place, full[i].bits(), ours[i].bits()))
         }
     }
-    Fault::beyond(lent, written)
 }
 
-/// Reads the written bytes, whole and cut: the list, and beginnings of it.
+/// Reads the written bytes, whole and cut: the list, and beginnings of it. Readers are asked with every room elsewhere, so once is enough here.
 fn check_reading_back(
     case: &RawCase,
     list: &[u32],
@@ -161,22 +154,20 @@ fn check_reading_back(
     for cut in (0..=bytes.len()).rev().step_by(step) {
         let kept = raw_reading(kind, l, &bytes[..cut]);
         if !list.starts_with(&kept) || (cut == bytes.len() && kept != list) {
-            return Err(Fault {
-                place: format!("{cut} bytes read back by the original's bit reader"),
-                expected: "the list, or a beginning of it from cut bytes".into(),
-                ours: text(&kept, u32::to_string),
-                answer: None,
-            });
+            return Err(Fault::new(
+                format!("{cut} bytes read back by the original's bit reader"),
+                "the list, or a beginning of it from cut bytes".into(),
+                text(&kept, u32::to_string),
+            ));
         }
-        let agreed = check_call(Room::Beyond(1), None, &kept, lent, |out| {
-            library.raw_read(kind, &bytes[..cut], l, out)
-        });
-        numbers += agreed
+        let call = |out: &mut [u32]| library.raw_read(kind, &bytes[..cut], l, out);
+        whole(None, &kept)
+            .ask_once(1, lent, call, |ours| check_places(&kept, ours))
             .map_err(|fault| Fault {
                 place: format!("{cut} bytes read back: {}", fault.place),
                 ..fault
-            })?
-            .numbers;
+            })?;
+        numbers += kept.len();
     }
     Ok(numbers)
 }

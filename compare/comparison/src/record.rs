@@ -66,12 +66,18 @@ fn append_record(
         }
         numbers.push(flag);
     }
-    for width in widths(kind, l, flag) {
-        let Some(number) = reader.read(width) else {
-            numbers.truncate(start);
-            return None;
-        };
-        numbers.push(number);
+    let (coordinates, colours) = shape(kind, flag);
+    for (width, count) in [
+        (l.coordinate, coordinates),
+        (l.component, colours * l.components),
+    ] {
+        for _ in 0..count {
+            let Some(number) = reader.read(width) else {
+                numbers.truncate(start);
+                return None;
+            };
+            numbers.push(number);
+        }
     }
     Some(())
 }

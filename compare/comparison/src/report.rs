@@ -3,11 +3,11 @@
 use crate::case::{plain, Case, Origin};
 use crate::checks::{check, Expected};
 use crate::lent::Lent;
-use crate::library::Library;
+use crate::library::{Library, Reading};
 use crate::raw::{RawCase, RawLent, Task};
 use crate::shrink::shrink;
 use crate::tensor::{self, TensorCase, TensorLent};
-use station::{Kind, Reading};
+use station::Kind;
 use std::fmt;
 
 pub const KINDS: [Kind; 4] = [Kind::Type4, Kind::Type5, Kind::Type6, Kind::Type7];
@@ -48,6 +48,7 @@ fn line(group: Group, kind: Kind) -> usize {
 #[derive(Clone, Default)]
 struct Tally {
     cases: u64,
+    /// Cases that are refused whatever they are lent.
     refused: u64,
     /// Cases that are kept from the original.
     without_original: u64,
@@ -146,7 +147,8 @@ impl fmt::Display for Report {
         write("all", &all)?;
         writeln!(
             f,
-            "Without original: refused with COMPONENTS or LENGTH, so only the refusal and the unchanged output are checked."
+            "Refused: for another reason than ROOM. Every other case is also asked with too little room.\n\
+             Without original: refused with COMPONENTS or LENGTH, so only the refusal and the unchanged output are checked."
         )?;
         for text in self.lines.iter().filter_map(|t| t.smallest.as_ref()) {
             write!(f, "\n{text}")?;
@@ -193,12 +195,12 @@ impl<'a> Bench<'a> {
         let (library, rows) = (self.library, &mut self.rows);
         let tally = &mut self.report.lines[line(group, plain(case.kind))];
         tally.cases += 1;
-        tally.refused += u64::from(expected.answer.is_err());
+        tally.refused += u64::from(expected.count.is_err());
         tally.without_original += u64::from(!expected.is_by_original);
         match check(case, reading, expected, library, rows) {
             Ok(numbers) => {
                 tally.numbers += numbers as u64;
-                tally.records += expected.answer.unwrap_or(0) as u64;
+                tally.records += expected.count.unwrap_or(0) as u64;
             }
             Err(fault) => tally.disagree(|| {
                 let (case, fault) = shrink(case.clone(), fault, |c| {
@@ -239,9 +241,9 @@ impl<'a> Bench<'a> {
         tally.cases += 1;
         match case.check(library, lent) {
             Ok(agreed) => {
-                tally.records += agreed.answer.unwrap_or(0) as u64;
+                tally.records += agreed.count.unwrap_or(0) as u64;
                 tally.numbers += agreed.numbers as u64;
-                tally.refused += u64::from(agreed.answer.is_err());
+                tally.refused += u64::from(agreed.count.is_err());
             }
             Err(fault) => tally.disagree(|| {
                 let (case, fault) = shrink(case.clone(), fault, |c| c.check(library, lent).err());

@@ -58,12 +58,11 @@ pub fn check_surface(
             let (expected, ours) = (expected[v][u], ours[v][u]);
             if expected != ours {
                 let at = format!("u = {u}/3, v = {v}/3");
-                return Err(Fault {
-                    place: format!("patch {patch}, {} times 6561 at {at}", AXES[axis]),
-                    expected: expected.to_string(),
-                    ours: ours.to_string(),
-                    answer: None,
-                });
+                return Err(Fault::new(
+                    format!("patch {patch}, {} times 6561 at {at}", AXES[axis]),
+                    expected.to_string(),
+                    ours.to_string(),
+                ));
             }
         }
     }

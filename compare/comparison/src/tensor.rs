@@ -1,16 +1,17 @@
 //! Coons patches turned into tensor patches: held against a computation of our own, against the surfaces that the clauses define, and against
 //! the patch before along the side that a joined one takes over.
 
+use crate::asking::Whole;
 use crate::case::{hex, text, Case, Room, MOST_COMPONENTS, MOST_NUMBERS, MOST_RESHAPED};
 use crate::checks::{flags, Fault, SIDES};
 use crate::lent::{Lent, Place};
-use crate::library::Library;
+use crate::library::{Library, Reading};
 use crate::record::{breaks_a_rule, shape, size};
 use crate::reshape::{without_a_component, without_a_record};
 use crate::shrink::{lower, smaller_lists, Shrinks};
 use crate::surface::{check_surface, AXES, GRID};
 use rows::same_number;
-use station::{Kind, Layout, Reading, Refusal};
+use station::{Kind, Layout, Refusal};
 use std::fmt;
 
 #[derive(Clone, Debug)]
@@ -23,7 +24,7 @@ pub enum Task {
     Read(Case),
 }
 
-/// A call of one of the two functions. A mesh that is read has its own count of components.
+/// What one of the two functions is asked. A mesh that is read has its own count of components.
 #[derive(Clone, Debug)]
 pub struct TensorCase {
     pub components: usize,
@@ -48,9 +49,9 @@ impl TensorLent {
     }
 }
 
-/// What agreed: the answer, which is a count of patches, and how many numbers.
+/// What agreed: the count of patches or the refusal, and how many numbers.
 pub struct TensorAgreed {
-    pub answer: Result<usize, Refusal>,
+    pub count: Result<usize, Refusal>,
     pub numbers: usize,
 }
 
@@ -210,15 +211,18 @@ impl TensorCase {
         for patch in &patches {
             raw_turned(patch, &mut full);
         }
-        let count = refusal.map_or(Ok(patches.len()), Err);
-        let agreed = check_call(self.room, count, full.len(), lent, |out| {
-            library.coons_to_tensor_raw(list, n, out)
+        let whole = Whole {
+            count: refusal.map_or(Ok(patches.len()), Err),
+            numbers: &full,
+        };
+        let call = |out: &mut [i64]| library.coons_to_tensor_raw(list, n, out);
+        whole.ask(self.room, lent, call, |ours| {
+            check_raw_output(n, &patches, &full, ours)
         })?;
-        if agreed.answer.is_ok() {
-            check_raw_output(n, &patches, &full, lent.written(full.len()))
-                .map_err(|fault| fault.after(count))?;
-        }
-        Ok(agreed)
+        Ok(TensorAgreed {
+            count: whole.count,
+            numbers: full.len(),
+        })
     }
 
     fn check_rows(
@@ -237,15 +241,18 @@ impl TensorCase {
         for row in &rows {
             row_turned(row, &mut full);
         }
-        let count = refusal.map_or(Ok(rows.len()), Err);
-        let agreed = check_call(self.room, count, full.len(), lent, |out| {
-            library.coons_to_tensor(values, n, out)
+        let whole = Whole {
+            count: refusal.map_or(Ok(rows.len()), Err),
+            numbers: &full,
+        };
+        let call = |out: &mut [f64]| library.coons_to_tensor(values, n, out);
+        whole.ask(self.room, lent, call, |ours| {
+            check_rows_output(n, &rows, &full, ours)
         })?;
-        if agreed.answer.is_ok() {
-            check_rows_output(n, &rows, &full, lent.written(full.len()))
-                .map_err(|fault| fault.after(count))?;
-        }
-        Ok(agreed)
+        Ok(TensorAgreed {
+            count: whole.count,
+            numbers: full.len(),
+        })
     }
 
     /// Turns what the reader writes, and looks at the sides that joined patches share.
@@ -263,47 +270,23 @@ impl TensorCase {
         };
         let room = flags.iter().map(|_| mesh.stride()).sum();
         let coons = &mut lent.coons;
+        coons.prepare(&[], room);
         let answer = coons.lend(room, |out| library.mesh(Reading::Ported, mesh, out));
         let expected = refusal.map_or(Ok(flags.len()), Err);
         if answer != expected {
             let fault = Fault::of_answer(expected, answer);
             return Err(Fault {
                 place: "the reader's answer".into(),
-                ..fault
+                ..fault.with(room)
             });
         }
         let agreed = self.check_rows(n, coons.written(room), library, &mut lent.rows)?;
-        if agreed.answer.is_ok() {
+        if agreed.count.is_ok() {
             check_sides(&flags, 8 + n, lent.rows.written(agreed.numbers))
                 .map_err(|fault| fault.after(answer))?;
         }
         Ok(agreed)
     }
-}
-
-/// A refused call has this room, less or more: enough for one that writes before it looks.
-const REFUSED: usize = 512;
-
-/// Holds a call's answer against the count of patches or the refusal that it should give, and the places beyond its numbers against what they were.
-fn check_call<T: Place>(
-    room: Room,
-    count: Result<usize, Refusal>,
-    numbers: usize,
-    lent: &mut Lent<T>,
-    call: impl FnOnce(&mut [T]) -> Result<usize, Refusal>,
-) -> Result<TensorAgreed, Fault> {
-    let places = room.places(if count.is_ok() { numbers } else { REFUSED });
-    let expected = match count {
-        Ok(_) if numbers > places => Err(Refusal::Room),
-        other => other,
-    };
-    let answer = lent.lend(places, call);
-    if answer != expected {
-        return Err(Fault::of_answer(expected, answer));
-    }
-    let numbers = answer.map_or(0, |_| numbers);
-    Fault::beyond(lent, numbers).map_err(|fault| fault.after(answer))?;
-    Ok(TensorAgreed { answer, numbers })
 }
 
 /// Holds raw patches turned against our numbers, the patches before them and their surfaces.

@@ -210,9 +210,7 @@ fn longest_raw(bench: &mut Bench<'_>) {
     for components in [0, 3] {
         let whole = list(components, &filling(components, MOST_NUMBERS));
         assert_eq!(whole.len(), MOST_NUMBERS);
-        for room in [Room::EXACT, Room::Short(1)] {
-            bench.tensor(&raw(components, whole.clone(), room));
-        }
+        bench.tensor(&raw(components, whole.clone(), Room::EXACT));
         let one_more = list(components, &filling(components, MOST_NUMBERS + 1));
         let broken = [&whole[..], &[0]].concat();
         let cut = one_more[..MOST_NUMBERS].to_vec();
@@ -238,8 +236,6 @@ fn longest_rows(bench: &mut Bench<'_>) {
         (0, (MOST_NUMBERS / row(0) + 1) * row(0)),
         (33, MOST_NUMBERS + 1),
     ] {
-        for room in [Room::EXACT, Room::Short(1)] {
-            bench.tensor(&rows(components, marked(length), room));
-        }
+        bench.tensor(&rows(components, marked(length), Room::EXACT));
     }
 }
