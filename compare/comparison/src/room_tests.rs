@@ -33,9 +33,11 @@ enum Planted {
     LessWritten,
     /// The last of just enough places is left as it was.
     LastUnwritten,
+    /// Another refusal has changed the last place that a patch of 32 components takes.
+    OtherWritten,
 }
 
-const ALL: [Planted; 11] = [
+const ALL: [Planted; 12] = [
     Planted::OneTooFew,
     Planted::OneTooMany,
     Planted::CountForPlaces,
@@ -47,6 +49,7 @@ const ALL: [Planted; 11] = [
     Planted::ExactRefused,
     Planted::LessWritten,
     Planted::LastUnwritten,
+    Planted::OtherWritten,
 ];
 
 fn room(needed: usize) -> Answer {
@@ -56,11 +59,16 @@ fn room(needed: usize) -> Answer {
 impl Planted {
     /// What a function with this fault makes of the proved one's call.
     fn call<T: Place>(self, out: &mut [T], proved: impl Fn(&mut [T]) -> Answer) -> Answer {
-        let (lent, answer) = (out.len(), proved(&mut []));
-        let needed = match answer {
+        let lent = out.len();
+        let needed = match proved(&mut []) {
             Ok(_) => return proved(out),
             Err(Refusal::Room { needed }) => needed,
-            Err(_) => return proved(out),
+            Err(_) => {
+                if self == Planted::OtherWritten && lent >= 192 {
+                    out[191] = out[191].opposite();
+                }
+                return proved(out);
+            }
         };
         let mut whole = vec![T::filler(0); needed];
         let count = proved(&mut whole).expect("room enough");
@@ -195,6 +203,7 @@ fn is_it(planted: Planted, fault: &Fault) -> bool {
         Planted::LastUnwritten => {
             !is_answer && !fault.place.contains("to be left") && fault.answer.is_some()
         }
+        Planted::OtherWritten => fault.place == "place 191 of the output, to be left as it was",
     }
 }
 
