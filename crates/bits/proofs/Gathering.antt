@@ -1,19 +1,19 @@
 -- Bytes put together into a number, and bits taken out of it. Assumes nothing.
-use Prim.Native.Nat.{ℕ, _+_, _-_, _*_, _/_, _%_, _^_, _≤_, _<_}
+use Prim.Native.Nat.{ℕ, zero, suc, _+_, _-_, _*_, _/_, _%_, _^_, _≤_, _<_}
 use mathlib.Core.Path.{_≡_, refl, sym, ap, _∙_, subst}
-use mathlib.Core.List.{List, append-nil}
-use native.Mathlib.Nat.{add-assoc, mul-add, one-mul, mod-eq-of-lt, mod-lt, div-one, lt-of-lt-of-le, zero-add}
+use mathlib.Core.List.{List, [], _∷_, _++_, append-nil}
+use native.Mathlib.Nat.{add-assoc, mul-add, one-mul, mod-lt, lt-of-lt-of-le, zero-add}
 use native.Mathlib.Omega.{arith}
-use lib.ListN.{length, take, drop, getD}
+use lib.ListN.{length, take, drop, getD, replicate, length-append}
 use lib.Seq.{drop-drop, take-add, drop-cons}
-use lib.Pow.{pow-pos, pow-add, pow-mono, shl-exact}
+use lib.Pow.{pow-pos, pow-add, pow-mono, shl-exact, shl-shr, shr-shr, field}
 use lib.Arith.{digits-lt}
-use lib.Bits.{bitOr, or-shifted, bitAnd, and-mask}
+use lib.Bits.{bitOr, or-shifted}
 use lib.Dec.{lit<}
 use Rattle.bits.specs.Bits.{bitsOf, number, stream, fieldAt}
 use Rattle.bits.specs.Inner.Gathering.{Gathers}
 use Rattle.bits.proofs.Digits.{number-bits, take-bits, drop-bits, bits-join}
-use Rattle.bits.proofs.Streams.{stream-append, bytes-window}
+use Rattle.bits.proofs.Streams.{stream-append, bytes-window, field-before}
 
 -- no byte
 pub gathers-none : (s : List ℕ) (from : ℕ) → Gathers s from 0 0
@@ -55,15 +55,23 @@ pub gathers-next : {s : List ℕ} (w k : ℕ) {x y : ℕ} → 8 * k + 8 ≤ w �
     → Gathers s 0 (k + 1) (bitOr (x * 2 ^ 8 % 2 ^ w) y)
 gathers-next w k fits g h = gathers-put w k 1 fits g (rw (zero-add k) h)
 
--- how the code takes the low n bits
+-- how code makes the bound of n bits; the crates above use it
 pub one-shl : (n : ℕ) → n ≤ 32 → 1 * 2 ^ n % 2 ^ 64 ≡ 2 ^ n
 one-shl n h = shl-exact {a = 1} 1 n 64 (lit< tt) (omega arith) ∙ one-mul (2 ^ n)
 
-pub masked : (x n : ℕ) → n ≤ 32 → bitAnd x (1 * 2 ^ n % 2 ^ 64 - 1) ≡ x % 2 ^ n
-masked x n h = ap (λ (m : ℕ). bitAnd x (m - 1)) (one-shl n h) ∙ and-mask x n
+-- how the code takes n bits at an offset out of 64
+pub shifted : (x off n : ℕ) → off + n ≤ 64 → x * 2 ^ off % 2 ^ 64 / 2 ^ (64 - n) ≡ x / 2 ^ (64 - off - n) % 2 ^ n
+shifted x off n h =
+    let rest : ℕ = 64 - off - n in
+    let after : 64 - n ≡ off + rest = omega arith in
+    let all : 64 ≡ n + (off + rest) = omega arith in
+    ap (λ (k : ℕ). x * 2 ^ off % 2 ^ 64 / 2 ^ k) after
+    ∙ ap (λ (k : ℕ). x * 2 ^ off % 2 ^ k / 2 ^ (off + rest)) all
+    ∙ field (x * 2 ^ off) n (off + rest)
+    ∙ ap (λ (y : ℕ). y % 2 ^ n) (sym (shr-shr (x * 2 ^ off) off rest) ∙ ap (λ (y : ℕ). y / 2 ^ rest) (shl-shr x off))
 
-pub masked-fits : (x n : ℕ) → n ≤ 32 → bitAnd x (1 * 2 ^ n % 2 ^ 64 - 1) < 2 ^ 32
-masked-fits x n h = rw (masked x n h) (lt-of-lt-of-le (mod-lt x (pow-pos n)) (pow-mono h))
+pub shifted-fits : (x off n : ℕ) → off + n ≤ 64 → n ≤ 32 → x * 2 ^ off % 2 ^ 64 / 2 ^ (64 - n) < 2 ^ 32
+shifted-fits x off n h small = rw (shifted x off n h) (lt-of-lt-of-le (mod-lt (x / 2 ^ (64 - off - n)) (pow-pos n)) (pow-mono small))
 
 -- n bits at an offset into gathered bytes
 pub gathers-window : {s : List ℕ} {from count r : ℕ} (off n : ℕ) → Gathers s from count r → from + count ≤ length s → off + n ≤ 8 * count
@@ -79,18 +87,26 @@ gathers-window {s} {from} {count} {r} off n g fits inside =
     ∙ take-bits n rest r)
     ∙ number-bits n (r / 2 ^ rest)
 
--- the same, in bytes at the start of the slice
-pub start-window : {s : List ℕ} {count r : ℕ} (off n : ℕ) → Gathers s 0 count r → count ≤ length s → off + n ≤ 8 * count
-    → fieldAt s off n ≡ r / 2 ^ (8 * count - off - n) % 2 ^ n
-start-window {s} off n g fits inside = ap (λ (p : ℕ). fieldAt s p n) (sym (zero-add off)) ∙ gathers-window off n g (omega arith) inside
+-- one of the first eight bytes, or a zero in its place
+pub gathers-padded : (s : List ℕ) (k : ℕ) → k < 8 → getD s k 0 < 256 → Gathers (s ++ replicate 8 0) k 1 (getD s k 0)
+gathers-padded s k h b =
+    rw (← padded s 8 k)
+    (gathers-one (s ++ replicate 8 0) k (rw length-append (omega arith)) (rw (padded s 8 k) b))
+  where
+    zeros : (m i : ℕ) → _≡_ {A = ℕ} (getD (replicate m 0) i 0) 0
+    zeros zero i = refl
+    zeros (suc m) zero = refl
+    zeros (suc m) (suc i) = zeros m i
 
--- all of their bits
-pub start-whole : {s : List ℕ} {count r : ℕ} (off n : ℕ) → Gathers s 0 count r → count ≤ length s → off ≡ 0 → n ≡ 8 * count
-    → r ≡ fieldAt s off n
-start-whole {s} {count} {r} off n g fits z w =
-    let none : 8 * count - off - n ≡ 0 = omega arith in
-    sym
-    (start-window off n g fits (omega arith)
-    ∙ ap (λ (k : ℕ). r / 2 ^ k % 2 ^ n) none
-    ∙ ap (λ (m : ℕ). m % 2 ^ n) (div-one r)
-    ∙ mod-eq-of-lt (rw w (g .small)))
+    padded : (t : List ℕ) (m i : ℕ) → getD (t ++ replicate m 0) i 0 ≡ getD t i 0
+    padded [] m i = zeros m i
+    padded (x ∷ t) m zero = refl
+    padded (x ∷ t) m (suc i) = padded t m i
+
+-- n bits at an offset into the first eight bytes, all of which exist
+pub padded-window : (s : List ℕ) {r : ℕ} (off n : ℕ) → Gathers (s ++ replicate 8 0) 0 8 r → off + n ≤ 64 → off + n ≤ 8 * length s
+    → fieldAt s off n ≡ r / 2 ^ (64 - off - n) % 2 ^ n
+padded-window s off n g fits inside =
+    sym (field-before s (replicate 8 0) off n inside)
+    ∙ ap (λ (p : ℕ). fieldAt (s ++ replicate 8 0) p n) (sym (zero-add off))
+    ∙ gathers-window off n g (rw length-append (omega arith)) fits

@@ -35,19 +35,27 @@ drop-stream (suc i) [] = drop-nil (8 * suc i)
 drop-stream (suc i) (b ∷ s) =
     rw (mul-suc 8 i, add-comm (8 * i) 8, ← drop-drop (8 * i) 8 (stream (b ∷ s)), drop-at (bitsOf 8 b) (stream s) 8 (length-bits 8 b)) (drop-stream i s)
 
+-- n bits of some bytes are there whatever bytes come after
+stream-before : (s z : List ℕ) (off n : ℕ) → off + n ≤ 8 * length s → take n (drop off (stream (s ++ z))) ≡ take n (drop off (stream s))
+stream-before s z off n inside =
+    let h₁ : off ≤ length (stream s) = rw length-stream (omega arith) in
+    let h₂ : n ≤ length (drop off (stream s)) = simp (length-drop, length-stream) (omega arith) in
+    ap (take n) (ap (drop off) (stream-append s z) ∙ drop-append-le off (stream s) (stream z) h₁)
+    ∙ take-append-le n (drop off (stream s)) (stream z) h₂
+
 -- n bits at an offset into a run of count bytes are those of the whole
 pub bytes-window : (s : List ℕ) (from count off n : ℕ) → from + count ≤ length s → off + n ≤ 8 * count
     → take n (drop (8 * from + off) (stream s)) ≡ take n (drop off (stream (take count (drop from s))))
 bytes-window s from count off n fits inside =
     let t : List ℕ = drop from s in
     let lt : length (take count t) ≡ count = simp (length-take, length-drop) (omega arith) in
-    let ls : length (stream (take count t)) ≡ 8 * count = length-stream (take count t) ∙ ap (λ (k : ℕ). 8 * k) lt in
-    let e : stream t ≡ stream (take count t) ++ stream (drop count t) = ap stream (sym (take-append-drop count t)) ∙ stream-append (take count t) (drop count t) in
-    let h₁ : off ≤ length (stream (take count t)) = omega arith in
-    let h₂ : n ≤ length (drop off (stream (take count t))) = rw length-drop (omega arith) in
-    ap (take n)
-    (sym (drop-drop off (8 * from) (stream s)) ∙ ap (drop off) (drop-stream from s ∙ e) ∙ drop-append-le off (stream (take count t)) (stream (drop count t)) h₁)
-    ∙ take-append-le n (drop off (stream (take count t))) (stream (drop count t)) h₂
+    ap (take n) (sym (drop-drop off (8 * from) (stream s)) ∙ ap (drop off) (drop-stream from s ∙ ap stream (sym (take-append-drop count t))))
+    ∙ stream-before (take count t) (drop count t) off n (rw lt inside)
+
+-- a field is the same whatever bytes come after
+pub field-before : (s z : List ℕ) (p w : ℕ) → p + w ≤ 8 * length s → fieldAt (s ++ z) p w ≡ fieldAt s p w
+unfolding fieldAt
+field-before s z p w h = ap number (stream-before s z p w h)
 
 -- a field of w bits is below 2 ^ w
 pub field-below : (s : List ℕ) (p w : ℕ) → p + w ≤ 8 * length s → fieldAt s p w < 2 ^ w

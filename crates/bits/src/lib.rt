@@ -1,8 +1,9 @@
 // The bit reader: numbers of 1 to 32 bits, taken from the high end of each byte, bytes in order.
 // A place is handed in and the next one handed back; the slice is lent for each read.
 ghost use mathlib.Core.Path.{_≡_};
+ghost use mathlib.Core.List.{_++_};
 ghost use Prim.Native.Nat.{_+_, _-_, _*_, _/_, _%_, _^_, _≤_, _<_};
-ghost use lib.ListN.{length};
+ghost use lib.ListN.{length, getD, replicate};
 ghost use Rattle.bits.specs.Bits.{fieldAt};
 ghost use Rattle.bits.specs.Reading.{readable, readAt, exhaustedAt};
 ghost use Rattle.bits.specs.Inner.Gathering.{Gathers};
@@ -70,52 +71,44 @@ fn eight_bytes(data: &[u8], from: BytePlace) -> u64
     (a << 56) | ((b << 48) | ((c << 40) | ((d << 32) | ((e << 24) | ((f << 16) | ((g << 8) | h))))))
 }
 
-// The bits of the first bytes, up to five of them, as a number.
-fn first_bytes(data: &[u8], count: usize) -> u64
-    requires { ⌜ (count ≤ 5) × (count ≤ length (now «data»)) ⌝ }
-    ensures { λ r. ⌜ Gathers (now («data» .entry)) 0 count r ⌝ }
+// The byte at a place, or 0 past the last one.
+fn byte_or_zero(data: &[u8], from: BytePlace) -> u64
+    ensures { λ r. ⌜ r ≡ getD (now («data» .entry)) (from .0) 0 ⌝ }
+{
+    let i = from.0;
+    if i < data.len() {
+        return data[i] as u64;
+    }
+    0
+}
+
+// The bits of the first eight bytes, as a number. Zeros stand for bytes that aren't there.
+fn first_eight(data: &[u8]) -> u64
+    ensures { λ r. ⌜ Gathers (now («data» .entry) ++ replicate 8 0) 0 8 r ⌝ }
 {
     let mut accum: u64 = 0;
     let mut k: usize = 0;
-    while k < count {
-        accum = (accum << 8) | one_byte(data, BytePlace(k));
+    while k < 8 {
+        accum = (accum << 8) | byte_or_zero(data, BytePlace(k));
         k += 1;
     }
     accum
 }
 
-// Of count gathered bytes, the n bits at an offset.
-fn window(accum: u64, count: usize, offset: usize, n: usize) -> u32
-    requires { ⌜ (n ≤ 32) × (count ≤ 8) × (1 ≤ n) × (offset + n ≤ 8 * count) ⌝ }
-    ensures { λ r. ⌜ r ≡ accum / 2 ^ (8 * count - offset - n) % 2 ^ n ⌝ }
+// Of eight gathered bytes, the n bits at an offset: what stands before them is shifted out, then what stands after them.
+fn window(accum: u64, offset: usize, n: usize) -> u32
+    requires { ⌜ (1 ≤ n) × (n ≤ 32) × (offset + n ≤ 64) ⌝ }
+    ensures { λ r. ⌜ r ≡ accum / 2 ^ (64 - offset - n) % 2 ^ n ⌝ }
 {
-    let shift = count * 8 - offset - n;
-    let mask = (1u64 << n) - 1;
-    ((accum >> shift) & mask) as u32
+    ((accum << offset) >> (64 - n)) as u32
 }
 
-// The n bits at an offset into the first byte, all of which exist. Four shortcuts for whole bytes: each counts its bytes by a constant, so that a
-// machine can load them at once.
+// The n bits at an offset into the first byte, all of which exist.
 fn field(data: &[u8], offset: usize, n: usize) -> u32
     requires { ⌜ (offset < 8) × (1 ≤ n) × (n ≤ 32) × (offset + n ≤ 8 * length (now «data»)) ⌝ }
     ensures { λ r. ⌜ r ≡ fieldAt (now («data» .entry)) offset n ⌝ }
 {
-    if offset == 0 {
-        if n == 8 {
-            return first_bytes(data, 1) as u32;
-        }
-        if n == 16 {
-            return first_bytes(data, 2) as u32;
-        }
-        if n == 24 {
-            return first_bytes(data, 3) as u32;
-        }
-        if n == 32 {
-            return first_bytes(data, 4) as u32;
-        }
-    }
-    let count = (offset + n + 7) / 8;
-    window(first_bytes(data, count), count, offset, n)
+    window(first_eight(data), offset, n)
 }
 
 // Reads n bits at a place, as `read` does, for a number that is read now and then. It hands on a part of the slice and never the slice itself, so
@@ -148,7 +141,8 @@ pub fn read_seldom(data: &[u8], at: BitPos, n: usize) -> BitRead
 }
 
 // Reads n bits at a place: the number and the place after it, or the end. A read of 0 bits gives 0. All but the last bytes are read eight at
-// once, which is little enough for a compiler to put into a loop.
+// once, which is little enough for a compiler to put into a loop. The last ones go by `read_seldom`, which it must leave out of there:
+// docs/DECISIONS.md, "The bit read".
 pub fn read(data: &[u8], at: BitPos, n: usize) -> BitRead
     ensures { λ r. ⌜ r ≡ readAt (now («data» .entry)) (at .0) n ⌝ }
 {
@@ -159,7 +153,7 @@ pub fn read(data: &[u8], at: BitPos, n: usize) -> BitRead
         if n <= 32 {
             if byte + 8 <= data.len() {
                 if data.len() <= 0x1fff_ffff_ffff_ffff { // a usize counts its bits
-                    let number = window(eight_bytes(data, place), 8, p % 8, n);
+                    let number = window(eight_bytes(data, place), p % 8, n);
                     let end = p + n;
                     return BitRead::Number(number, BitPos(end));
                 }
