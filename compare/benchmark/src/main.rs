@@ -2,6 +2,7 @@
 //! of medians of interleaved runs: under 1 is faster than the other. Outputs are touched once before.
 
 mod asking;
+mod libraries;
 mod meshes;
 mod raw;
 mod stream;
@@ -22,6 +23,7 @@ fn main() {
         Some("tensor") => tensor::print(),
         Some("asking") => asking::print(),
         Some("input") => meshes::print_input(&words[1..]),
-        Some(other) => panic!("benchmark [meshes|raw|tensor|asking], not {other}"),
+        Some("libraries") => libraries::print(&words[1..]),
+        Some(other) => panic!("benchmark [meshes|raw|tensor|asking|libraries], not {other}"),
     }
 }
