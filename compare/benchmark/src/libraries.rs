@@ -149,8 +149,8 @@ fn share<T: Copy + Default + PartialEq>(
     });
     let [mut out, other] = written;
     assert!(out == other, "the two builds answer alike");
-    // short inputs are run again and again, so that the clock's own steps don't count
-    let turns = 200_000 / out.len() + 1;
+    // each time is that of a million numbers or more: with fewer, single layouts of one and the same build differ by 5%
+    let turns = 1_000_000 / out.len() + 1;
     let out = std::cell::RefCell::new(&mut out[..]);
     let run = |r: Readers| {
         for _ in 0..turns {
