@@ -9,3 +9,5 @@ pub mod Ranges
 pub mod Endings
 pub mod TriangleReadings
 pub mod PatchReadings
+pub mod FlagReadings
+pub mod PublishedBytes

@@ -1,6 +1,6 @@
--- How the readings of Types 6 and 7 go together. In bytes the published reading is the ported one, `parse6 sides` and `parse7 sides`, and so it is
--- of the Type 6 list, `build6 sides`: one definition, one outcome. The Type 7 list has two tables, and the table is all that differs: every call is
--- answered alike, and where no record is joined to another the numbers are the same. Assumes nothing.
+-- How the readings of the Type 6 and Type 7 lists go together. Of the Type 6 list the published reading is the ported one, `build6 sides`: one definition,
+-- one outcome. The Type 7 list has two tables, and the table is all that differs: every call is answered alike, and where no record is joined to another
+-- the numbers are the same. Assumes nothing.
 use Prim.Native.Nat.{ℕ, _*_, _+_}
 use mathlib.Core.Path.{_≡_, refl, sym, ap, _∙_}
 use mathlib.Core.Bool.{Bool, true, false}

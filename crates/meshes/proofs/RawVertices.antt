@@ -15,7 +15,7 @@ use Rattle.lists.proofs.Pieces.{joined-same}
 use Rattle.bits.specs.Bits.{stream}
 use Rattle.bits.proofs.Streams.{length-stream}
 use Rattle.records.specs.declared.shape.Kind.the-variants.{Four, Five}
-use Rattle.records.specs.Format.{sum, numbers, Format, format, readings, rawReading}
+use Rattle.records.specs.Format.{sum, numbers, Meaning, Format, formatBy, format, readings, rawReading}
 use Rattle.records.proofs.Readings.{readings-none, readings-some, sum-append, sum-replicate}
 use Rattle.records.proofs.Counts.{same-next, same-none, vertex-more}
 use Rattle.meshes.proofs.Parts.{joined-first}
@@ -80,12 +80,12 @@ vertexSize lead coord comp n = lead + (2 * coord + n * comp)
 
 module _ (s : List ℕ) (coord comp n : ℕ) where
   -- flag, x, y and components
-  pub raw-type4 : (flag : ℕ) → 1 ≤ flag
+  pub raw-type4 : (meaning : Meaning) (flag : ℕ) → 1 ≤ flag
       → let size : ℕ = vertexSize flag coord comp n in
-      rawReading (format Four flag coord comp n) s
+      rawReading (formatBy meaning Four flag coord comp n) s
       ≡ joined (8 * length s / size) (λ (i : ℕ). numbers (flag ∷ coord ∷ coord ∷ replicate n comp) (drop (i * size) (stream s)))
-  raw-type4 flag h =
-      same-records (format Four flag coord comp n) (coord ∷ coord ∷ replicate n comp) (vertex-more Four flag coord comp n 2 (λ started x. refl)) h
+  raw-type4 meaning flag h =
+      same-records (formatBy meaning Four flag coord comp n) (coord ∷ coord ∷ replicate n comp) (vertex-more Four flag coord comp n 2 (λ started x. refl)) h
       (vertexSize flag coord comp n) (vertex-bits flag 2 coord n comp) s
 
   -- x, y and components

@@ -14,23 +14,19 @@ use lib.Seq.{drop-drop}
 use Rattle.bits.specs.Bits.{number, stream, fieldAt}
 use Rattle.decode.specs.Decode.{Ranges}
 use Rattle.colour.specs.Inner.Places.{bitNumbers}
-use Rattle.records.specs.Format.{sum, Format, patchShape, widthsOf, readings, rawReading, pointsAfter, coloursAfter}
+use Rattle.records.specs.Format.{sum, Meaning, Format, patchShape, widthsOf, readings, rawReading, pointsAfter, coloursAfter}
 use Rattle.records.proofs.Readings.{sum-append, sum-replicate, next-fits, next-none, readings-none, readings-enough, length-from}
 use Rattle.rules.specs.Patches.{Table, mesh}
 use Rattle.rules.specs.Meshes.{piece, pieces, patchMesh}
 use Rattle.rules.proofs.Meshes.{pieces-none}
-use Rattle.rules.proofs.RawReading.{there, itself, pieces-reading}
+use Rattle.rules.proofs.RawReading.{there, patchFormat, pieces-reading}
 use Rattle.meshes.specs.Decoded.{byDecode}
 use Rattle.meshes.proofs.Standing.{reads-decode, bodyNumbers, in-bits}
 use Rattle.meshes.proofs.PatchRecords.{RowPatch, highest, recordPlaces, Records, rowPieces, records-of}
 
--- Type 6 or 7, where a joined patch has so many points of its own
-abbrev pub patchFormat : ℕ → ℕ → ℕ → ℕ → ℕ → Format
-patchFormat own first coord comp n = record { first = first; more = λ started x. widthsOf coord comp n (patchShape own started x) }
-
-module _ (own first coord comp n : ℕ) where
+module _ (flag : Meaning) (own first coord comp n : ℕ) where
   abbrev F : Format
-  F = patchFormat own first coord comp n
+  F = patchFormat flag own first coord comp n
 
   abbrev size : ℕ → ℕ
   size f = recordPlaces own first coord comp n f
@@ -48,12 +44,12 @@ module _ (own first coord comp n : ℕ) where
         sum-replicate (coloursAfter f * n) comp,
       )
 
-  more-allowed : {P : Type 0} (b : Option P) (f : ℕ) → f ≤ highest b → F .more (there b) f ≡ some (after f)
+  more-allowed : {P : Type 0} (b : Option P) (f : ℕ) → f ≤ highest b → widthsOf coord comp n (patchShape own (there b) f) ≡ some (after f)
   more-allowed b zero h = refl
   more-allowed none (suc f) h = absurd (omega arith)
   more-allowed (some b) (suc f) h = rw (eqb·suc-zero f, le-leb (suc f) 3 h)
 
-  more-ends : {P : Type 0} (b : Option P) (f : ℕ) → highest b < f → F .more (there b) f ≡ none
+  more-ends : {P : Type 0} (b : Option P) (f : ℕ) → highest b < f → widthsOf coord comp n (patchShape own (there b) f) ≡ none
   more-ends b zero h = absurd (omega arith)
   more-ends none (suc f) h = rw (eqb·suc-zero f)
   more-ends (some b) (suc f) h = rw (eqb·suc-zero f, lt-leb (suc f) 3 h)
@@ -70,8 +66,8 @@ module _ (own first coord comp n : ℕ) where
     abbrev body : ℕ → ℕ → List ℕ
     body p f = bodyNumbers s coord comp (2 * pointsAfter own f) (coloursAfter f * n) (p + first)
 
-    takes : {P : Type 0} (b : Option P) (p f : ℕ) → f ≡ fieldAt s p first → f ≤ highest b → p + size f ≤ 8 * length s
-        → pieces 0 itself own n (rest (there b) p) ≡ piece 0 own n f (body p f) ∷ pieces 0 itself own n (rest true (p + size f))
+    takes : {P : Type 0} (b : Option P) (p f : ℕ) → f ≡ flag (fieldAt s p first) → f ≤ highest b → p + size f ≤ 8 * length s
+        → pieces 0 flag own n (rest (there b) p) ≡ piece 0 own n f (body p f) ∷ pieces 0 flag own n (rest true (p + size f))
     unfolding fieldAt
     takes b p f e a h =
         let bits : List ℕ = drop p (stream s) in
@@ -82,7 +78,7 @@ module _ (own first coord comp n : ℕ) where
         let k : ℕ = length (stream s) in
         rw (
           readings-enough F k (suc k) (there b) bits some-bits (left p) (omega (arith, left p)),
-          pieces-reading own first coord comp n k (there b) bits (after f) m stands,
+          pieces-reading flag own first coord comp n k (there b) bits (after f) m stands,
           ← e,
           drop-drop first p (stream s),
           drop-drop (first + sum (after f)) p (stream s),
@@ -90,33 +86,34 @@ module _ (own first coord comp n : ℕ) where
         )
 
     stops : {P : Type 0} (b : Option P) (p : ℕ) → p ≤ 8 * length s
-        → (fieldAt s p first ≤ highest b → 8 * length s < p + size (fieldAt s p first)) → pieces 0 itself own n (rest (there b) p) ≡ []
+        → (flag (fieldAt s p first) ≤ highest b → 8 * length s < p + size (flag (fieldAt s p first))) → pieces 0 flag own n (rest (there b) p) ≡ []
     unfolding fieldAt
     stops b p within h =
-        ap (pieces 0 itself own n) (readings-none F (length (stream s)) (there b) bits (next-none F (there b) bits (λ ws e. cut ws e (decLe f (highest b)))))
-        ∙ pieces-none 0 own n itself
+        ap (pieces 0 flag own n) (readings-none F (length (stream s)) (there b) bits (next-none F (there b) bits (λ ws e. cut ws e (decLe f (highest b)))))
+        ∙ pieces-none 0 own n flag
       where
         bits : List ℕ
         bits = drop p (stream s)
 
         f : ℕ
-        f = number (take first bits)
+        f = flag (number (take first bits))
 
-        cut : (ws : List ℕ) → F .more (there b) f ≡ some ws → Dec (f ≤ highest b) → length bits < first + sum ws
+        cut : (ws : List ℕ) → F .more (there b) (number (take first bits)) ≡ some ws → Dec (f ≤ highest b) → length bits < first + sum ws
         cut ws e (yes a) =
             let same : after f ≡ ws = Option·some-injective _ _ (sym (more-allowed b f a) ∙ e) in
             rw (← same) (omega (arith, h a, sum-after f, length-from s p within))
         cut ws e (no a) = absurd (Option·none-ne-some ws (sym (more-ends b _ (lt-of-not-le a)) ∙ e))
 
-    ends-there : (T : Table) (R : Ranges) (b : Option RowPatch) (p : ℕ) → pieces 0 itself own n (rest (there b) p) ≡ []
-        → mesh T b (rowPieces (reads-decode R) own n (rest (there b) p)) ≡ []
+    ends-there : (T : Table) (R : Ranges) (b : Option RowPatch) (p : ℕ) → pieces 0 flag own n (rest (there b) p) ≡ []
+        → mesh T b (rowPieces (reads-decode flag R) own n (rest (there b) p)) ≡ []
     unfolding mesh
     ends-there T R b p e = rw e
 
     pub records-of-bytes : (T : Table) (R : Ranges)
-        → Records T own first coord comp n (8 * length s) (λ (p : ℕ). fieldAt s p first) (bitNumbers s R) (patchMesh T own (byDecode R) n (rawReading F s))
+        → Records T own first coord comp n (8 * length s) (λ (p : ℕ). flag (fieldAt s p first)) (bitNumbers s R)
+        (patchMesh T own (byDecode flag R) n (rawReading F s))
     unfolding rawReading
     records-of-bytes T R =
-        records-of (reads-decode R) own n T first coord comp (8 * length s) (λ (p : ℕ). fieldAt s p first) (bitNumbers s R) rest
-        (λ b p f e a h. (body p f, takes b p f e a h, in-bits s coord comp (2 * pointsAfter own f) (coloursAfter f * n) (p + first) R))
+        records-of (reads-decode flag R) own n T first coord comp (8 * length s) (λ (p : ℕ). flag (fieldAt s p first)) (bitNumbers s R) rest
+        (λ b p f e a h. (body p f, takes b p f e a h, in-bits s coord comp (2 * pointsAfter own f) (coloursAfter f * n) (p + first) flag R))
         (λ b p within h. ends-there T R b p (stops b p within h))

@@ -14,7 +14,7 @@ use Rattle.decode.specs.Decode.{Ranges, valueOf}
 use Rattle.colour.specs.Colour.{colourRow}
 use Rattle.colour.specs.Inner.Places.{Numbers, bitNumbers, listNumbers, pointAt, componentsAt, vertexAt, pointsAt, coloursAt}
 use Rattle.colour.proofs.Lengths.{length-colourRow}
-use Rattle.records.specs.Format.{numbers}
+use Rattle.records.specs.Format.{numbers, Meaning}
 use Rattle.rules.specs.Meshes.{Source, vertexRow, groups}
 use Rattle.meshes.specs.Decoded.{decoded, byDecode, asListed}
 
@@ -50,16 +50,16 @@ module _ (R : Ranges) where
       decoded-append k (joined n (λ (j : ℕ). g j ∷ [])) (g n ∷ [])
       ∙ rw (decoded-singles k n g, length-singles g n) (unfold decoded in refl)
 
-  pub reads-decode : SourceReads (byDecode R)
-  unfolding part joined decoded
-  reads-decode =
-      record {
-        value = λ kind x. valueOf x (R kind .scale) (R kind .min);
-        point-of = λ xs from. refl;
-        colour-of = λ xs from n. ap colourRow (decoded-singles 2 n (λ (j : ℕ). getD xs (from + j) 0));
-        point-sized = λ xs e. length-decoded 0 xs ∙ e;
-        colour-sized = λ n xs e. length-colourRow (decoded R 2 xs) ∙ ap (λ (k : ℕ). 8 + k) (length-decoded 2 xs ∙ e);
-      }
+pub reads-decode : (flag : Meaning) (R : Ranges) → SourceReads (byDecode flag R)
+unfolding part joined decoded
+reads-decode flag R =
+    record {
+      value = λ kind x. valueOf x (R kind .scale) (R kind .min);
+      point-of = λ xs from. refl;
+      colour-of = λ xs from n. ap colourRow (decoded-singles R 2 n (λ (j : ℕ). getD xs (from + j) 0));
+      point-sized = λ xs e. length-decoded R 0 xs ∙ e;
+      colour-sized = λ n xs e. length-colourRow (decoded R 2 xs) ∙ ap (λ (k : ℕ). 8 + k) (length-decoded R 2 xs ∙ e);
+    }
 
 pub reads-listed : SourceReads asListed
 unfolding part joined
@@ -190,9 +190,9 @@ module _ (s : List ℕ) where
     abbrev pub bodyNumbers : List ℕ
     bodyNumbers = numbers (replicate coords coord ++ replicate comps comp) (drop p (stream s))
 
-    pub in-bits : (R : Ranges) → Stands (reads-decode R) (bitNumbers s R) bodyNumbers coord comp coords comps 0 p
+    pub in-bits : (flag : Meaning) (R : Ranges) → Stands (reads-decode flag R) (bitNumbers s R) bodyNumbers coord comp coords comps 0 p
     unfolding bitNumbers reads-decode
-    in-bits R =
+    in-bits flag R =
         record {
           coords-are = λ kind j i q l e f.
               let g : i ≡ j = omega arith in

@@ -15,7 +15,7 @@ use Rattle.bits.specs.Bits.{stream, fieldAt}
 use Rattle.decode.specs.Decode.{Ranges, flagOf}
 use Rattle.colour.specs.Inner.Places.{Numbers, bitNumbers, listNumbers, vertexAt}
 use Rattle.records.specs.declared.shape.Kind.the-variants.{Four, Five}
-use Rattle.records.specs.Format.{numbers, format, rawReading}
+use Rattle.records.specs.Format.{numbers, Meaning, wholeNumber, formatBy, format, rawReading}
 use Rattle.records.proofs.Readings.{length-numbers}
 use Rattle.rules.specs.Triangles.{Tri, Rule, triangles}
 use Rattle.rules.specs.Lattice.{lattice}
@@ -79,7 +79,7 @@ module _ {A : Type 0} {S : Source A Float} (reads : SourceReads S) (N : Numbers)
 -- ---- bytes
 
 -- Records of the same widths, one after the other: each has so many numbers, of which x is number m, so many bits after the first.
-module _ (s : List ℕ) (R : Ranges) (coord comp n lead m each : ℕ) (widths : List ℕ) (sized : length widths ≡ each) (enough : m + (2 + n) ≤ each)
+module _ (s : List ℕ) (meaning : Meaning) (R : Ranges) (coord comp n lead m each : ℕ) (widths : List ℕ) (sized : length widths ≡ each) (enough : m + (2 + n) ≤ each)
     (after : (b : List ℕ) (j : ℕ) → getD (numbers widths b) (m + j) 0 ≡ getD (numbers (coord ∷ coord ∷ replicate n comp) (drop lead b)) j 0) where
   abbrev records : List ℕ
   records = joined (8 * length s / vertexSize lead coord comp n) (λ (i : ℕ). numbers widths (drop (i * vertexSize lead coord comp n) (stream s)))
@@ -92,10 +92,10 @@ module _ (s : List ℕ) (R : Ranges) (coord comp n lead m each : ℕ) (widths : 
   count = count-pieces _ each _ (λ i. length-numbers widths _ ∙ sized) (omega arith)
 
   stand : (i : ℕ) → i < 8 * length s / vertexSize lead coord comp n
-      → Stands (reads-decode R) (bitNumbers s R) records coord comp 2 n (i * each + m) (i * vertexSize lead coord comp n + lead)
+      → Stands (reads-decode meaning R) (bitNumbers s R) records coord comp 2 n (i * each + m) (i * vertexSize lead coord comp n + lead)
   stand i h =
       let place : ℕ = i * vertexSize lead coord comp n in
-      stands-moved (in-bits s coord comp 2 n (place + lead) R)
+      stands-moved (in-bits s coord comp 2 n (place + lead) meaning R)
       (λ j k. rw (add-assoc (i * each) m j, zero-add j)
       (element i (m + j) h (omega arith)
       ∙ after (drop place (stream s)) j
@@ -105,31 +105,32 @@ module _ (s : List ℕ) (R : Ranges) (coord comp n : ℕ) where
   abbrev body : List ℕ
   body = coord ∷ coord ∷ replicate n comp
 
-  pub mesh-of-type4 : (flag : ℕ) → 1 ≤ flag → (r : Rule)
-      → type4Mesh (triangles r) (byDecode R) n (rawReading (format Four flag coord comp n) s)
-      ≡ freeForm r (λ (p : ℕ). fieldAt s p flag) (bitNumbers s R) flag coord comp n (8 * length s)
+  pub mesh-of-type4 : (meaning : Meaning) (flag : ℕ) → 1 ≤ flag → (r : Rule)
+      → type4Mesh (triangles r) (byDecode meaning R) n (rawReading (formatBy meaning Four flag coord comp n) s)
+      ≡ freeForm r (λ (p : ℕ). meaning (fieldAt s p flag)) (bitNumbers s R) flag coord comp n (8 * length s)
   unfolding numbers fieldAt
-  mesh-of-type4 flag some-bits r =
+  mesh-of-type4 meaning flag some-bits r =
       let sized : length (flag ∷ body) ≡ n + 3 = omega (arith, length-replicate n comp) in
       let after : (b : List ℕ) (j : ℕ) → getD (numbers (flag ∷ body) b) (1 + j) 0 ≡ getD (numbers body (drop flag b)) j 0 = λ b j. rw (one-add j) in
       let enough : 1 + (2 + n) ≤ n + 3 = omega arith in
-      rw (raw-type4 s coord comp n flag some-bits)
-      (free-form (reads-decode R) (bitNumbers s R) _ flag coord comp n (8 * length s) r (λ (p : ℕ). fieldAt s p flag)
-      (count s R coord comp n flag 1 (n + 3) (flag ∷ body) sized enough after)
-      (λ i h. rw (← (add-zero (i * (n + 3)))) (element s R coord comp n flag 1 (n + 3) (flag ∷ body) sized enough after i 0 h (omega arith)))
-      (stand s R coord comp n flag 1 (n + 3) (flag ∷ body) sized enough after))
+      rw (raw-type4 s coord comp n meaning flag some-bits)
+      (free-form (reads-decode meaning R) (bitNumbers s R) _ flag coord comp n (8 * length s) r (λ (p : ℕ). meaning (fieldAt s p flag))
+      (count s meaning R coord comp n flag 1 (n + 3) (flag ∷ body) sized enough after)
+      (λ i h. ap meaning
+      (rw (← (add-zero (i * (n + 3)))) (element s meaning R coord comp n flag 1 (n + 3) (flag ∷ body) sized enough after i 0 h (omega arith))))
+      (stand s meaning R coord comp n flag 1 (n + 3) (flag ∷ body) sized enough after))
 
   pub mesh-of-type5 : 1 ≤ coord → (rowLength : ℕ)
-      → type5Mesh rowLength (byDecode R) n (rawReading (format Five coord coord comp n) s)
+      → type5Mesh rowLength (byDecode wholeNumber R) n (rawReading (format Five coord coord comp n) s)
       ≡ latticeForm rowLength (bitNumbers s R) 0 coord comp n (8 * length s)
   mesh-of-type5 some-bits rowLength =
       let sized : length body ≡ n + 2 = omega (arith, length-replicate n comp) in
       let after : (b : List ℕ) (j : ℕ) → getD (numbers body b) (0 + j) 0 ≡ getD (numbers body (drop 0 b)) j 0 = λ b j. rw (zero-add j) in
       let enough : 0 + (2 + n) ≤ n + 2 = omega arith in
       rw (raw-type5 s coord comp n some-bits)
-      (lattice-form (reads-decode R) (bitNumbers s R) _ 0 coord comp n (8 * length s) rowLength
-      (count s R coord comp n 0 0 (n + 2) body sized enough after)
-      (stand s R coord comp n 0 0 (n + 2) body sized enough after))
+      (lattice-form (reads-decode wholeNumber R) (bitNumbers s R) _ 0 coord comp n (8 * length s) rowLength
+      (count s wholeNumber R coord comp n 0 0 (n + 2) body sized enough after)
+      (stand s wholeNumber R coord comp n 0 0 (n + 2) body sized enough after))
 
 -- ---- a list
 

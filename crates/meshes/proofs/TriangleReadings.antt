@@ -7,6 +7,7 @@ use mathlib.Core.Option.{none}
 use lib.ListN.{length}
 use lib.Ieee.{Float, nan}
 use Rattle.decode.specs.Decode.{flagOf}
+use Rattle.records.specs.Format.{wholeNumber}
 use Rattle.rules.specs.Triangles.{FlagRule, start, triangleBefore, lastThree, triangles}
 use Rattle.rules.specs.Ported.{binaryReader, listBuilder}
 use Rattle.rules.proofs.Properties.{flagsUsed, NoTwoTwos}
@@ -25,7 +26,7 @@ by-triangles rule rule′ S n xs e = rw e
 -- ---- from bytes
 
 pub type4-ported : (s : List ℕ) (coord comp flag : ℕ) (entries : List Float) (n room : ℕ)
-    → parse4 (binaryReader none 0) s coord comp flag entries n room ≡ parse4 (triangles triangleBefore) s coord comp flag entries n room
+    → parse4 wholeNumber (binaryReader none 0) s coord comp flag entries n room ≡ parse4 wholeNumber (triangles triangleBefore) s coord comp flag entries n room
 unfolding parsed
 type4-ported s coord comp flag entries n room = rw (by-triangles (binaryReader none 0) (triangles triangleBefore) _ n _ (binary-reader _))
 

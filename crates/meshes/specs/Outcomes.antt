@@ -16,8 +16,8 @@ use Rattle.records.specs.declared.layout.FlagWidth.the-variants.{Absent, Bits}
 use Rattle.records.specs.declared.shape.Kind.{Kind}
 use Rattle.records.specs.declared.shape.Kind.the-variants.{Four, Five, Six, Seven}
 use Rattle.records.specs.Layout.{firstWidth, layoutReadable}
-use Rattle.records.specs.Format.{format, rawReading}
-use Rattle.rules.specs.Triangles.{FlagRule}
+use Rattle.records.specs.Format.{Meaning, wholeNumber, twoLowBits, formatBy, rawReading}
+use Rattle.rules.specs.Triangles.{FlagRule, triangleBefore, triangles}
 use Rattle.rules.specs.Ported.{binaryReader}
 use Rattle.rules.specs.Patches.{Table, sides}
 use Rattle.rules.specs.Meshes.{Source, Finished, type4Mesh, type5Mesh, patchMesh}
@@ -29,9 +29,10 @@ fittedMesh mesh room = fitted (mesh .count) (mesh .numbers) room
 
 -- ---- from bytes
 
--- a mesh type at given widths, with Decode's entries and the count of components
+-- a mesh type at given widths, what its flags mean, Decode's entries and the count of components
 pub record Stream : Type 0 where
   pub kind : Kind
+  pub meaning : Meaning
   pub flag : FlagWidth
   pub coord : ℕ
   pub comp : ℕ
@@ -40,11 +41,11 @@ pub record Stream : Type 0 where
 
 -- the raw numbers of the bytes s
 abbrev pub rawOf : Stream → List ℕ → List ℕ
-rawOf m s = rawReading (format (m .kind) (firstWidth (m .flag) (m .coord)) (m .coord) (m .comp) (m .n)) s
+rawOf m s = rawReading (formatBy (m .meaning) (m .kind) (firstWidth (m .flag) (m .coord)) (m .coord) (m .comp) (m .n)) s
 
 -- what they stand for
 abbrev pub decodeOf : Stream → Source ℕ Float
-decodeOf m = byDecode (ranges (m .entries) (m .coord) (m .comp))
+decodeOf m = byDecode (m .meaning) (ranges (m .entries) (m .coord) (m .comp))
 
 -- LAYOUT, COMPONENTS, LENGTH, ROOM; then the mesh that the raw numbers make
 unfoldable pub parsed : Stream → (Source ℕ Float → ℕ → List ℕ → Finished Float) → List ℕ → ℕ → Outcome Float
@@ -54,28 +55,41 @@ parsed m mesh s room =
     (refuseIf (ltb mostBytes (length s)) Length
     (fittedMesh (mesh (decodeOf m) (m .n) (rawOf m s)) room)))
 
-abbrev pub parse4 : FlagRule → List ℕ → ℕ → ℕ → ℕ → List Float → ℕ → ℕ → Outcome Float
-parse4 rule s coord comp flag entries n room =
-    parsed (record { kind = Four; flag = Bits flag; coord = coord; comp = comp; entries = entries; n = n }) (type4Mesh rule) s room
+abbrev pub parse4 : Meaning → FlagRule → List ℕ → ℕ → ℕ → ℕ → List Float → ℕ → ℕ → Outcome Float
+parse4 meaning rule s coord comp flag entries n room =
+    parsed (record { kind = Four; meaning = meaning; flag = Bits flag; coord = coord; comp = comp; entries = entries; n = n })
+    (type4Mesh rule) s room
 
+-- Type 5 has no flags
 abbrev pub parse5 : List ℕ → ℕ → ℕ → List Float → ℕ → ℕ → ℕ → Outcome Float
 parse5 s coord comp entries n row room =
-    parsed (record { kind = Five; flag = Absent; coord = coord; comp = comp; entries = entries; n = n }) (type5Mesh row) s room
+    parsed (record { kind = Five; meaning = wholeNumber; flag = Absent; coord = coord; comp = comp; entries = entries; n = n })
+    (type5Mesh row) s room
 
-abbrev pub parse6 : Table → List ℕ → ℕ → ℕ → ℕ → List Float → ℕ → ℕ → Outcome Float
-parse6 T s coord comp flag entries n room =
-    parsed (record { kind = Six; flag = Bits flag; coord = coord; comp = comp; entries = entries; n = n }) (patchMesh T 8) s room
+abbrev pub parse6 : Meaning → Table → List ℕ → ℕ → ℕ → ℕ → List Float → ℕ → ℕ → Outcome Float
+parse6 meaning T s coord comp flag entries n room =
+    parsed (record { kind = Six; meaning = meaning; flag = Bits flag; coord = coord; comp = comp; entries = entries; n = n })
+    (patchMesh T 8) s room
 
-abbrev pub parse7 : Table → List ℕ → ℕ → ℕ → ℕ → List Float → ℕ → ℕ → Outcome Float
-parse7 T s coord comp flag entries n room =
-    parsed (record { kind = Seven; flag = Bits flag; coord = coord; comp = comp; entries = entries; n = n }) (patchMesh T 12) s room
+abbrev pub parse7 : Meaning → Table → List ℕ → ℕ → ℕ → ℕ → List Float → ℕ → ℕ → Outcome Float
+parse7 meaning T s coord comp flag entries n room =
+    parsed (record { kind = Seven; meaning = meaning; flag = Bits flag; coord = coord; comp = comp; entries = entries; n = n })
+    (patchMesh T 12) s room
 
 -- the ported reader of a type; the row length is used by Type 5 alone
 unfoldable pub portedReader : Kind → List ℕ → ℕ → ℕ → ℕ → List Float → ℕ → ℕ → ℕ → Outcome Float
-portedReader Four s coord comp flag entries n row room = parse4 (binaryReader none 0) s coord comp flag entries n room
+portedReader Four s coord comp flag entries n row room = parse4 wholeNumber (binaryReader none 0) s coord comp flag entries n room
 portedReader Five s coord comp flag entries n row room = parse5 s coord comp entries n row room
-portedReader Six s coord comp flag entries n row room = parse6 sides s coord comp flag entries n room
-portedReader Seven s coord comp flag entries n row room = parse7 sides s coord comp flag entries n room
+portedReader Six s coord comp flag entries n row room = parse6 wholeNumber sides s coord comp flag entries n room
+portedReader Seven s coord comp flag entries n row room = parse7 wholeNumber sides s coord comp flag entries n room
+
+-- the published one
+unfoldable pub publishedReader : Kind → List ℕ → ℕ → ℕ → ℕ → List Float → ℕ → ℕ → ℕ → Outcome Float
+publishedReader Four s coord comp flag entries n row room =
+    parse4 twoLowBits (triangles triangleBefore) s coord comp flag entries n room
+publishedReader Five s coord comp flag entries n row room = parse5 s coord comp entries n row room
+publishedReader Six s coord comp flag entries n row room = parse6 twoLowBits sides s coord comp flag entries n room
+publishedReader Seven s coord comp flag entries n row room = parse7 twoLowBits sides s coord comp flag entries n room
 
 -- ---- from a list of numbers
 

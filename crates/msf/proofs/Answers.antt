@@ -20,6 +20,7 @@ use Rattle.answers.proofs.Outcomes.{passed}
 use Rattle.answers.proofs.OneOutcome.{one-answer}
 use Rattle.records.specs.declared.shape.Kind.{Kind}
 use Rattle.records.specs.declared.shape.Kind.the-variants.{Four, Five, Six, Seven}
+use Rattle.records.specs.Format.{wholeNumber}
 use Rattle.records.specs.Layout.{layoutReadable}
 use Rattle.decode.specs.Decode.{Ranges}
 use Rattle.rules.specs.Triangles.{FlagRule}
@@ -82,30 +83,30 @@ module _ {A : Type 0} {entry exit : List A} where
 -- ---- the numbers of each mesh
 
 module _ (R : Ranges) (n : ℕ) (xs : List ℕ) where
-  length-vertex : (ys : List ℕ) → length ys ≡ n + 2 → length (vertexRow (byDecode R) ys) ≡ 10 + n
+  length-vertex : (ys : List ℕ) → length ys ≡ n + 2 → length (vertexRow (byDecode wholeNumber R) ys) ≡ 10 + n
   length-vertex ys e =
-      let point = reads-decode R .point-sized (take 2 ys) (simp length-take (omega arith)) in
-      let colour = reads-decode R .colour-sized n (drop 2 ys) (simp length-drop (omega arith)) in
-      omega (arith, length-append (byDecode R .point (take 2 ys)) (byDecode R .colour (drop 2 ys)))
+      let point = reads-decode wholeNumber R .point-sized (take 2 ys) (simp length-take (omega arith)) in
+      let colour = reads-decode wholeNumber R .colour-sized n (drop 2 ys) (simp length-drop (omega arith)) in
+      omega (arith, length-append (byDecode wholeNumber R .point (take 2 ys)) (byDecode wholeNumber R .colour (drop 2 ys)))
 
-  length-type4 : (rule : FlagRule) → length (type4Mesh rule (byDecode R) n xs .numbers) ≡ type4Mesh rule (byDecode R) n xs .count * (3 * (10 + n))
+  length-type4 : (rule : FlagRule) → length (type4Mesh rule (byDecode wholeNumber R) n xs .numbers) ≡ type4Mesh rule (byDecode wholeNumber R) n xs .count * (3 * (10 + n))
   unfolding type4Mesh vertex4
   length-type4 rule =
-      length-mesh (λ (i : ℕ). vertexRow (byDecode R) (vertex4 0 n xs i)) (10 + n)
+      length-mesh (λ (i : ℕ). vertexRow (byDecode wholeNumber R) (vertex4 0 n xs i)) (10 + n)
       (λ i. length-vertex (vertex4 0 n xs i) (length-part 0 xs (i * (n + 3) + 1) (n + 2)))
-      (rule (flags 0 (λ (x : ℕ). x) n xs))
+      (rule (flags 0 wholeNumber n xs))
 
-  length-type5 : (row : ℕ) → length (type5Mesh row (byDecode R) n xs .numbers) ≡ type5Mesh row (byDecode R) n xs .count * (3 * (10 + n))
+  length-type5 : (row : ℕ) → length (type5Mesh row (byDecode wholeNumber R) n xs .numbers) ≡ type5Mesh row (byDecode wholeNumber R) n xs .count * (3 * (10 + n))
   unfolding type5Mesh vertex5
   length-type5 row =
-      length-mesh (λ (i : ℕ). vertexRow (byDecode R) (vertex5 0 n xs i)) (10 + n)
+      length-mesh (λ (i : ℕ). vertexRow (byDecode wholeNumber R) (vertex5 0 n xs i)) (10 + n)
       (λ i. length-vertex (vertex5 0 n xs i) (length-part 0 xs (i * (n + 2)) (n + 2)))
       (lattice (length xs / (n + 2)) row)
 
   length-patches : (own : ℕ) → All (Fits (4 + own)) sides
-      → length (patchMesh sides own (byDecode R) n xs .numbers) ≡ patchMesh sides own (byDecode R) n xs .count * ((4 + own) * 2 + 4 * (8 + n))
+      → length (patchMesh sides own (byDecode wholeNumber R) n xs .numbers) ≡ patchMesh sides own (byDecode wholeNumber R) n xs .count * ((4 + own) * 2 + 4 * (8 + n))
   length-patches own fit =
-      length-patchMesh (byDecode R) 2 (8 + n) n (reads-decode R .point-sized) (reads-decode R .colour-sized n) sides own fit xs
+      length-patchMesh (byDecode wholeNumber R) 2 (8 + n) n (reads-decode wholeNumber R .point-sized) (reads-decode wholeNumber R .colour-sized n) sides own fit xs
 
 -- ---- accepted meshes
 

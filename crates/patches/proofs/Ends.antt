@@ -10,11 +10,12 @@ use Rattle.answers.specs.declared.Answer.the-variants.{Wrote, Refused}
 use Rattle.answers.specs.Outcome.{Done}
 use Rattle.answers.proofs.Outcomes.{no-room-for, all-written}
 use Rattle.decode.specs.Decode.{Ranges}
-use Rattle.records.specs.Format.{Format, widthsOf, patchShape, rawReading}
-use Rattle.rows.specs.Inner.Layouts.{rangeList, heldRanges, filledRanges}
+use Rattle.records.specs.Format.{Format, rawReading}
+use Rattle.rows.specs.Inner.Layouts.{masked, rangeList, heldRanges, filledRanges}
 use Rattle.rows.proofs.Held.{filled-alike}
 use Rattle.rules.specs.Patches.{Table}
 use Rattle.rules.specs.Meshes.{Finished, patchMesh}
+use Rattle.rules.proofs.RawReading.{patchFormat}
 use Rattle.meshes.specs.Decoded.{byDecode, asListed}
 use Rattle.meshes.specs.Outcomes.{fittedMesh}
 use Rattle.patches.specs.declared.finding.Records.{Records}
@@ -28,7 +29,7 @@ module _ {T : Table} {m : Records} {s : List ℕ} {vs : List Float} (suits : Sui
 
   module _ (dec entry : List Float) where
     abbrev F : Format
-    F = record { first = m .layout .flag; more = λ started x. widthsOf (m .layout .coord) (m .layout .comp) (m .layout .n) (patchShape (m .own) started x) }
+    F = patchFormat (masked (m .mask)) (m .own) (m .layout .flag) (m .layout .coord) (m .layout .comp) (m .layout .n)
 
     abbrev decoded : Finished Float
     decoded = finishedOf T m s vs (heldRanges (rangeList dec (m .layout .coord) (m .layout .comp)))
@@ -42,5 +43,5 @@ module _ {T : Table} {m : Records} {s : List ℕ} {vs : List Float} (suits : Sui
     patches-written held before {exit} {p} filled w =
         let same : finishedOf T m s vs (heldRanges held) ≡ decoded =
         ap (λ (l : List Float). finishedOf T m s vs (heldRanges l)) filled
-        ∙ filled-alike (m .layout) dec before (patchMesh T (m .own) asListed (m .layout .n) vs) (λ (l : List Float). patchMesh T (m .own) (byDecode (heldRanges l)) (m .layout .n) (rawReading F s)) in
+        ∙ filled-alike (m .layout) dec before (patchMesh T (m .own) asListed (m .layout .n) vs) (λ (l : List Float). patchMesh T (m .own) (byDecode (masked (m .mask)) (heldRanges l)) (m .layout .n) (rawReading F s)) in
         all-written (counted _) (subst (λ (F : Finished Float). Written entry exit 0 (F .numbers) p) same w)

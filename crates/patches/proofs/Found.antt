@@ -56,10 +56,10 @@ module _ (m : Records) (s : List ℕ) (vs : List Float) (most pos : ℕ) where
   pub found-nothing : m .limit < pos + m .layout .flag → End ≡ foundAt m s vs most pos
   unfolding foundAt
   found-nothing h =
-      let g : ℕ = flagIn (m .layout) s vs pos in
+      let g : ℕ = flagIn (m .layout) (m .mask) s vs pos in
       simp (lt-leb (pos + sizeOf m g) (m .limit) (omega (arith, record-moves m g)), both-end)
 
-  module _ (f : ℕ) (e : f ≡ flagIn (m .layout) s vs pos) where
+  module _ (f : ℕ) (e : f ≡ flagIn (m .layout) (m .mask) s vs pos) where
     pub found-over : most < f → End ≡ foundAt m s vs most pos
     unfolding foundAt
     found-over h = simp (← e, lt-leb f most h)
@@ -70,7 +70,7 @@ module _ (m : Records) (s : List ℕ) (vs : List Float) (most pos : ℕ) where
 
 -- a record that is found is complete, and its flag may come
 pub record RecordWhole (m : Records) (s : List ℕ) (vs : List Float) (most pos f : ℕ) (next : Place) : Type 0 where
-  pub flagged : f ≡ flagIn (m .layout) s vs pos
+  pub flagged : f ≡ flagIn (m .layout) (m .mask) s vs pos
   pub allowed : f ≤ most
   pub after : next .0 ≡ pos + sizeOf m f
   pub within : next .0 ≤ m .limit
@@ -90,7 +90,7 @@ module _ (m : Records) (s : List ℕ) (vs : List Float) (most pos : ℕ) where
   pub found-whole : (f : ℕ) (next : Place) → Record f next ≡ foundAt m s vs most pos → RecordWhole m s vs most pos f next
   unfolding foundAt
   found-whole f next e =
-      let g : ℕ = flagIn (m .layout) s vs pos in
+      let g : ℕ = flagIn (m .layout) (m .mask) s vs pos in
       let t = by-tests (leb g most) (leb (pos + sizeOf m g) (m .limit)) g (record { 0 = pos + sizeOf m g }) f next e in
       let a = leb-true _ _ (t .0) in
       let b = leb-true _ _ (t .1) in
@@ -98,10 +98,10 @@ module _ (m : Records) (s : List ℕ) (vs : List Float) (most pos : ℕ) where
       record { flagged = t .2; allowed = rw (t .2) a; after = rw (t .2) k; within = rw k b }
 
   -- where none is, a flag that may come has no complete record
-  pub found-none : End ≡ foundAt m s vs most pos → flagIn (m .layout) s vs pos ≤ most
-      → m .limit < pos + sizeOf m (flagIn (m .layout) s vs pos)
+  pub found-none : End ≡ foundAt m s vs most pos → flagIn (m .layout) (m .mask) s vs pos ≤ most
+      → m .limit < pos + sizeOf m (flagIn (m .layout) (m .mask) s vs pos)
   unfolding foundAt
   found-none e h =
-      let g : ℕ = flagIn (m .layout) s vs pos in
+      let g : ℕ = flagIn (m .layout) (m .mask) s vs pos in
       leb-false _ _
       (end-tests (leb g most) (leb (pos + sizeOf m g) (m .limit)) g (record { 0 = pos + sizeOf m g }) e (le-leb g most h))

@@ -1,6 +1,6 @@
 -- What stands at a place of a mesh, by its flag, its points and its colours, is there whole: so it is read and placed. Assumes nothing.
 use Prim.Native.Nat.{ℕ, _+_, _*_, _≤_}
-use mathlib.Core.Path.{_≡_}
+use mathlib.Core.Path.{_≡_, ap, _∙_}
 use mathlib.Core.List.{List}
 use native.Mathlib.Omega.{arith}
 use lib.ListN.{length}
@@ -8,17 +8,18 @@ use lib.Ieee.{Float}
 use Rattle.lists.specs.Writing.{Written, Placed}
 use Rattle.decode.specs.Decode.{Ranges}
 use Rattle.colour.specs.Inner.Places.{pointsAt, coloursAt}
-use Rattle.rows.specs.Inner.Layouts.{numbersOf, flagIn, flagAt}
+use Rattle.rows.specs.Inner.Layouts.{numbersOf, masked, flagIn, flagAt}
 use Rattle.rows.specs.Inner.Placing.{pointsAlone, coloursAlone, runFits, NumbersThere}
 use Rattle.rows.proofs.Callers.{points-written, colours-written, flag-there}
 use Rattle.patches.specs.declared.finding.Records.{Records}
 use Rattle.patches.specs.Inner.Records.{RecordsThere, pointsFrom, coloursFrom}
 
 module _ {m : Records} {s : List ℕ} {vs : List Float} (u : RecordsThere m s vs) (p : ℕ) where
-  pub flag-stands : p + m .layout .flag ≤ m .limit → flagAt (m .layout) s vs p ≡ flagIn (m .layout) s vs p
-  flag-stands h =
-      flag-there (m .layout) s vs p
-      (λ e. let i = u .in-bits e in (u .fair .flag-some, u .fair .flag-few, i .1, omega arith))
+  pub flag-stands : {f : ℕ} → p + m .layout .flag ≤ m .limit → f ≡ flagAt (m .layout) s vs p
+      → masked (m .mask) f ≡ flagIn (m .layout) (m .mask) s vs p
+  flag-stands h e =
+      ap (masked (m .mask)) e ∙ flag-there (m .layout) s vs (m .mask) p
+      (λ e. let i = u .in-bits e in (u .fair .flag-some, u .fair .flag-few, i .1, omega arith)) (λ e. u .in-list e .4)
 
   standing : (size : ℕ) → p + size ≤ m .limit → NumbersThere (m .layout) s vs p size
   standing size h =

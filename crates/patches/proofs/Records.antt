@@ -10,7 +10,7 @@ use lib.Ieee.{Float}
 use Rattle.decode.specs.Decode.{Ranges}
 use Rattle.records.specs.Format.{pointsAfter, coloursAfter}
 use Rattle.rows.specs.declared.Place.{Place}
-use Rattle.rows.specs.Inner.Layouts.{numbersOf, flagIn}
+use Rattle.rows.specs.Inner.Layouts.{numbersOf, masked, flagIn}
 use Rattle.rules.specs.Patches.{Table, mesh}
 use Rattle.rules.proofs.RawReading.{there}
 use Rattle.meshes.proofs.PatchRecords as meshes
@@ -25,7 +25,7 @@ use Rattle.patches.proofs.Found.{found-whole, found-none}
 -- what the mesh comes to is the mesh of its records
 abbrev pub Kept : Table → Records → List ℕ → List Float → Ranges → Type 0
 Kept T m s vs R =
-    meshes.Records T (m .own) (m .layout .flag) (m .layout .coord) (m .layout .comp) (m .layout .n) (m .limit) (flagIn (m .layout) s vs)
+    meshes.Records T (m .own) (m .layout .flag) (m .layout .coord) (m .layout .comp) (m .layout .n) (m .limit) (flagIn (m .layout) (m .mask) s vs)
     (numbersOf (m .layout) s vs R) (finishedOf T m s vs R)
 
 pub record Promised (T : Table) (m : Records) (s : List ℕ) (vs : List Float) (R : Ranges) : Type 0 where
@@ -42,7 +42,7 @@ promised {T} {m} {s} {vs} u three R = record { kept = by-source (m .layout .list
     by-source false e =
         unfold flagIn numbersOf finishedOf in
         rw (e, u .in-bits e .0)
-        (records-of-bytes (m .own) (m .layout .flag) (m .layout .coord) (m .layout .comp) (m .layout .n) (u .fair .flag-some) s T R)
+        (records-of-bytes (masked (m .mask)) (m .own) (m .layout .flag) (m .layout .coord) (m .layout .comp) (m .layout .n) (u .fair .flag-some) s T R)
 
 module _ {T : Table} {m : Records} {s : List ℕ} {vs : List Float} {R : Ranges} (w : Promised T m s vs R) where
   -- the next record, and its own points and colours as they are written

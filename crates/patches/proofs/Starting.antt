@@ -1,19 +1,19 @@
 -- A call that got past its tests has records that can be walked, and its outcome is their mesh. Assumes nothing.
 use Prim.Native.Nat.{ℕ, _+_, _*_, _≤_}
 use mathlib.Core.Path.{_≡_, refl, sym, ap, _∙_}
-use mathlib.Core.Bool.{Bool, true, false, _&&_}
+use mathlib.Core.Bool.{true, false}
 use mathlib.Core.List.{List}
 use native.Mathlib.Omega.{arith}
-use lib.Dec.{leb}
 use lib.ListN.{length}
 use lib.Ieee.{Float}
 use Rattle.lists.specs.Lists.{All}
 use Rattle.answers.specs.Limits.{mostComponents, mostBytes, mostNumbers}
 use Rattle.decode.specs.Decode.{Ranges, ranges}
 use Rattle.records.specs.declared.layout.FlagWidth.the-variants.{Bits}
-use Rattle.records.specs.Layout.{widthsReadable, layoutReadable}
-use Rattle.records.proofs.Layouts.{Widths, widths-readable}
-use Rattle.rows.specs.Inner.Layouts.{rangeList, heldRanges}
+use Rattle.records.specs.Format.{Meaning}
+use Rattle.records.specs.Layout.{layoutReadable}
+use Rattle.records.proofs.Layouts.{layout-widths}
+use Rattle.rows.specs.Inner.Layouts.{masked, rangeList, heldRanges}
 use Rattle.rows.proofs.Held.{held-ranges}
 use Rattle.rules.specs.Patches.{sides}
 use Rattle.rules.specs.Inner.Sides.{Fits}
@@ -34,11 +34,12 @@ use Rattle.patches.specs.Inner.Records.{RecordsThere, Suits, finishedOf}
 -- ---- the records of a call
 
 abbrev pub listRecords : ℕ → ℕ → List Float → Records
-listRecords own n vs = record { layout = record { listed = true; flag = 1; coord = 1; comp = 1; n = n }; own = own; limit = length vs }
+listRecords own n vs =
+    record { layout = record { listed = true; flag = 1; coord = 1; comp = 1; n = n }; mask = 4294967295; own = own; limit = length vs }
 
-abbrev pub bitRecords : ℕ → ℕ → ℕ → ℕ → ℕ → List ℕ → Records
-bitRecords flag coord comp own n s =
-    record { layout = record { listed = false; flag = flag; coord = coord; comp = comp; n = n }; own = own; limit = 8 * length s }
+abbrev pub bitRecords : ℕ → ℕ → ℕ → ℕ → ℕ → ℕ → List ℕ → Records
+bitRecords flag mask coord comp own n s =
+    record { layout = record { listed = false; flag = flag; coord = coord; comp = comp; n = n }; mask = mask; own = own; limit = 8 * length s }
 
 own-few : (form : Form) (own : ℕ) → own ≡ ownOf form → own ≤ 12
 own-few Coons own e = omega arith
@@ -64,24 +65,16 @@ list-there form own n s vs e few short =
             n-few = few;
             limit-few = omega arith;
           };
-      in-list = λ t. (refl, refl, refl, refl);
+      in-list = λ t. (refl, refl, refl, refl, refl);
       in-bits = λ t. never t;
     }
 
-layout-widths : (flag coord comp entries : ℕ) → layoutReadable coord comp (Bits flag) entries ≡ true → Widths flag coord comp
-unfolding layoutReadable
-layout-widths flag coord comp entries e = widths-readable flag coord comp (go (widthsReadable flag coord comp) (leb 4 entries) e)
-  where
-    go : (a b : Bool) → a && b ≡ true → a ≡ true
-    go true b e = refl
-    go false b e = never (sym e)
-
-pub bits-there : (form : Form) (flag coord comp own n entries : ℕ) (s : List ℕ) (vs : List Float) → own ≡ ownOf form
+pub bits-there : (form : Form) (flag mask coord comp own n entries : ℕ) (s : List ℕ) (vs : List Float) → own ≡ ownOf form
     → layoutReadable coord comp (Bits flag) entries ≡ true → n ≤ mostComponents → length s ≤ mostBytes
-    → RecordsThere (bitRecords flag coord comp own n s) s vs
-bits-there form flag coord comp own n entries s vs e lay few short =
+    → RecordsThere (bitRecords flag mask coord comp own n s) s vs
+bits-there form flag mask coord comp own n entries s vs e lay few short =
     let o = own-few form own e in
-    let w = layout-widths flag coord comp entries lay in
+    let w = layout-widths (Bits flag) coord comp entries lay in
     record {
       fair =
           record {
@@ -121,28 +114,29 @@ unfolding builtForm finishedOf
 list-outcome table form own n s vs entry R e few short =
     rw e (sym (list-accepted (patchMesh (tableOf table) (ownOf form)) n vs entry few short))
 
-abbrev streamOf : Form → ℕ → ℕ → ℕ → List Float → ℕ → Stream
-streamOf form coord comp flag entries n =
-    record { kind = typeOfForm form; flag = Bits flag; coord = coord; comp = comp; entries = entries; n = n }
+abbrev streamOf : Form → Meaning → ℕ → ℕ → ℕ → List Float → ℕ → Stream
+streamOf form meaning coord comp flag entries n =
+    record { kind = typeOfForm form; meaning = meaning; flag = Bits flag; coord = coord; comp = comp; entries = entries; n = n }
 
-module _ (flag coord comp n : ℕ) (entries : List Float) (s : List ℕ) (vs entry : List Float)
+module _ (flag mask coord comp n : ℕ) (entries : List Float) (s : List ℕ) (vs entry : List Float)
     (lay : layoutReadable coord comp (Bits flag) (length entries) ≡ true) (few : n ≤ mostComponents) (short : length s ≤ mostBytes) where
   -- the ranges of the list are Decode's, as far as a record has kinds
   same : (own : ℕ) (xs : List ℕ) → All (Fits (4 + own)) sides
-      → patchMesh sides own (byDecode (heldRanges (rangeList entries coord comp))) n xs ≡ patchMesh sides own (byDecode (ranges entries coord comp)) n xs
+      → patchMesh sides own (byDecode (masked mask) (heldRanges (rangeList entries coord comp))) n xs
+      ≡ patchMesh sides own (byDecode (masked mask) (ranges entries coord comp)) n xs
   same own xs fit =
-      patches-alike (heldRanges (rangeList entries coord comp)) (ranges entries coord comp) n (λ k h. held-ranges entries coord comp k (omega arith))
-      sides own fit xs
+      patches-alike (masked mask) (heldRanges (rangeList entries coord comp)) (ranges entries coord comp) n
+      (λ k h. held-ranges entries coord comp k (omega arith)) sides own fit xs
 
   pub bits-outcome : (form : Form) (own : ℕ) → own ≡ ownOf form
-      → fittedMesh (finishedOf sides (bitRecords flag coord comp own n s) s vs (heldRanges (rangeList entries coord comp))) (length entry)
-      ≡ parsedForm form s coord comp flag entries n (length entry)
+      → fittedMesh (finishedOf sides (bitRecords flag mask coord comp own n s) s vs (heldRanges (rangeList entries coord comp))) (length entry)
+      ≡ parsedForm form (masked mask) s coord comp flag entries n (length entry)
   unfolding parsedForm finishedOf
   bits-outcome Coons own e =
       rw e
-      (ap (λ (M : Finished Float). fittedMesh M (length entry)) (same 8 (rawOf (streamOf Coons coord comp flag entries n) s) (sides-fit .0))
-      ∙ sym (accepted (streamOf Coons coord comp flag entries n) (patchMesh sides 8) s entry lay few short))
+      (ap (λ (M : Finished Float). fittedMesh M (length entry)) (same 8 (rawOf (streamOf Coons (masked mask) coord comp flag entries n) s) (sides-fit .0))
+      ∙ sym (accepted (streamOf Coons (masked mask) coord comp flag entries n) (patchMesh sides 8) s entry lay few short))
   bits-outcome Tensor own e =
       rw e
-      (ap (λ (M : Finished Float). fittedMesh M (length entry)) (same 12 (rawOf (streamOf Tensor coord comp flag entries n) s) (sides-fit .1))
-      ∙ sym (accepted (streamOf Tensor coord comp flag entries n) (patchMesh sides 12) s entry lay few short))
+      (ap (λ (M : Finished Float). fittedMesh M (length entry)) (same 12 (rawOf (streamOf Tensor (masked mask) coord comp flag entries n) s) (sides-fit .1))
+      ∙ sym (accepted (streamOf Tensor (masked mask) coord comp flag entries n) (patchMesh sides 12) s entry lay few short))

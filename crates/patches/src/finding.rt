@@ -6,9 +6,10 @@ ghost use Rattle.patches.specs.Inner.Records.{Fair, RecordsThere, sizeOf
 use rows::Layout;
 use rows::Place;
 
-// How the records stand, how many points a joined patch has of its own, and how many places there are.
+// How the records stand, which bits of a flag count, how many points a joined patch has of its own, and how many places there are.
 pub struct Records {
     pub layout: Layout,
+    pub mask: u32,
     pub own: usize,
     pub limit: usize,
 }
@@ -73,7 +74,8 @@ pub fn find_record(
     if records.limit - place.0 < layout.flag {
         return Found::End;
     }
-    let flag = rows::flag_at(data, values, layout, place) as usize;
+    let number = rows::flag_at(data, values, layout, place);
+    let flag = (number & records.mask) as usize;
     if flag == 0 {
         return record_at(records, 0, place);
     }

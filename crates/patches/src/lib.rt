@@ -5,6 +5,8 @@ ghost use lib.ListN.{length};
 ghost use Prim.Native.Nat.{_+_};
 ghost use Rattle.lists.specs.Lists.{All};
 ghost use Rattle.answers.specs.Outcome.{Done};
+ghost use Rattle.records.specs.Format.{wholeNumber, twoLowBits};
+ghost use Rattle.rows.specs.Inner.Layouts.{masked};
 ghost use Rattle.rules.specs.Patches.{sides, listSides};
 ghost use Rattle.rules.specs.Inner.Sides.{Fits};
 ghost use Rattle.meshes.specs.Outcomes.{parse6, parse7, build6, build7};
@@ -36,17 +38,19 @@ fn own_points(form: Form) -> usize
     }
 }
 
+// Both types and both readings: the mask has the bits of a flag that count.
 fn parse_patches(
     data: &[u8],
     coord: usize,
     comp: usize,
     flag: usize,
+    mask: u32,
     decode: &[f64],
     n: usize,
     form: Form,
     out: &mut [f64],
 ) -> Answer
-    ensures { λ r. ⌜ Done (parsedForm form (now («data» .entry)) coord comp flag (now (decode .entry)) n (length (now (out .entry)))) (now (out .entry)) r (now (out .exit)) ⌝ }
+    ensures { λ r. ⌜ Done (parsedForm form (masked mask) (now («data» .entry)) coord comp flag (now (decode .entry)) n (length (now (out .entry)))) (now (out .entry)) r (now (out .exit)) ⌝ }
 {
     if !records::layout::mesh_layout_is_readable(coord, comp, FlagWidth::Bits(flag), decode.len()) {
         return Answer::Refused(Refusal::Layout);
@@ -66,6 +70,7 @@ fn parse_patches(
     };
     let records = Records {
         layout,
+        mask,
         own: own_points(form),
         limit: 8 * data.len(),
     };
@@ -91,6 +96,7 @@ fn build_patches(values: &[f64], n: usize, form: Form, sides: Sides, out: &mut [
     };
     let records = Records {
         layout,
+        mask: rows::WHOLE_NUMBER,
         own: own_points(form),
         limit: values.len(),
     };
@@ -99,6 +105,8 @@ fn build_patches(values: &[f64], n: usize, form: Form, sides: Sides, out: &mut [
 }
 
 // ---- from bytes
+
+// The readers of 000: a flag is the whole number.
 
 pub fn parse_type6_patches(
     data: &[u8],
@@ -109,9 +117,19 @@ pub fn parse_type6_patches(
     n: usize,
     out: &mut [f64],
 ) -> Answer
-    ensures { λ r. ⌜ Done (parse6 sides (now («data» .entry)) coord comp flag (now (decode .entry)) n (length (now (out .entry)))) (now (out .entry)) r (now (out .exit)) ⌝ }
+    ensures { λ r. ⌜ Done (parse6 wholeNumber sides (now («data» .entry)) coord comp flag (now (decode .entry)) n (length (now (out .entry)))) (now (out .entry)) r (now (out .exit)) ⌝ }
 {
-    parse_patches(data, coord, comp, flag, decode, n, Form::Coons, out)
+    parse_patches(
+        data,
+        coord,
+        comp,
+        flag,
+        rows::WHOLE_NUMBER,
+        decode,
+        n,
+        Form::Coons,
+        out,
+    )
 }
 
 pub fn parse_type7_patches(
@@ -123,12 +141,22 @@ pub fn parse_type7_patches(
     n: usize,
     out: &mut [f64],
 ) -> Answer
-    ensures { λ r. ⌜ Done (parse7 sides (now («data» .entry)) coord comp flag (now (decode .entry)) n (length (now (out .entry)))) (now (out .entry)) r (now (out .exit)) ⌝ }
+    ensures { λ r. ⌜ Done (parse7 wholeNumber sides (now («data» .entry)) coord comp flag (now (decode .entry)) n (length (now (out .entry)))) (now (out .entry)) r (now (out .exit)) ⌝ }
 {
-    parse_patches(data, coord, comp, flag, decode, n, Form::Tensor, out)
+    parse_patches(
+        data,
+        coord,
+        comp,
+        flag,
+        rows::WHOLE_NUMBER,
+        decode,
+        n,
+        Form::Tensor,
+        out,
+    )
 }
 
-// The published reading of Types 6 and 7 in bytes is the ported one.
+// As ISO 32000-1, 8.7.4.5.7 and 8.7.4.5.8, has them, but for what docs/DIFFERENCES.md lists: a flag is its two low bits.
 
 pub fn published_type6_patches(
     data: &[u8],
@@ -139,9 +167,19 @@ pub fn published_type6_patches(
     n: usize,
     out: &mut [f64],
 ) -> Answer
-    ensures { λ r. ⌜ Done (parse6 sides (now («data» .entry)) coord comp flag (now (decode .entry)) n (length (now (out .entry)))) (now (out .entry)) r (now (out .exit)) ⌝ }
+    ensures { λ r. ⌜ Done (parse6 twoLowBits sides (now («data» .entry)) coord comp flag (now (decode .entry)) n (length (now (out .entry)))) (now (out .entry)) r (now (out .exit)) ⌝ }
 {
-    parse_patches(data, coord, comp, flag, decode, n, Form::Coons, out)
+    parse_patches(
+        data,
+        coord,
+        comp,
+        flag,
+        rows::TWO_LOW_BITS,
+        decode,
+        n,
+        Form::Coons,
+        out,
+    )
 }
 
 pub fn published_type7_patches(
@@ -153,9 +191,19 @@ pub fn published_type7_patches(
     n: usize,
     out: &mut [f64],
 ) -> Answer
-    ensures { λ r. ⌜ Done (parse7 sides (now («data» .entry)) coord comp flag (now (decode .entry)) n (length (now (out .entry)))) (now (out .entry)) r (now (out .exit)) ⌝ }
+    ensures { λ r. ⌜ Done (parse7 twoLowBits sides (now («data» .entry)) coord comp flag (now (decode .entry)) n (length (now (out .entry)))) (now (out .entry)) r (now (out .exit)) ⌝ }
 {
-    parse_patches(data, coord, comp, flag, decode, n, Form::Tensor, out)
+    parse_patches(
+        data,
+        coord,
+        comp,
+        flag,
+        rows::TWO_LOW_BITS,
+        decode,
+        n,
+        Form::Tensor,
+        out,
+    )
 }
 
 // ---- from a list of numbers

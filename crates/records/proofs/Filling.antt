@@ -23,7 +23,7 @@ use Rattle.records.proofs.Shapes.{small}
 use Rattle.records.proofs.Runs.{run-of-one, record-written}
 use Rattle.records.proofs.Walks.{length-record, restAt, rest-start, rest-none, rest-record}
 
-nothing : (l : List ℕ) → length l ≡ 0 → l ≡ []
+pub nothing : (l : List ℕ) → length l ≡ 0 → l ≡ []
 nothing [] e = refl
 nothing (x ∷ l) e = absurd (omega arith)
 

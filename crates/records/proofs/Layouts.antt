@@ -10,7 +10,8 @@ use lib.ListN.{replicate}
 use Rattle.lists.specs.Lists.{All}
 use Rattle.lists.proofs.Members.{all-append, all-replicate}
 use Rattle.bits.specs.Reading.{readable}
-use Rattle.records.specs.Layout.{widthsReadable}
+use Rattle.records.specs.declared.layout.FlagWidth.{FlagWidth}
+use Rattle.records.specs.Layout.{firstWidth, widthsReadable, layoutReadable}
 
 both-true : (a b : Bool) → a && b ≡ true → (a ≡ true) × (b ≡ true)
 both-true true b e = (refl, e)
@@ -36,6 +37,11 @@ widths-readable first coord comp e =
     let t = both-true (readable coord) (readable comp && readable first) e in
     let u = both-true (readable comp) (readable first) (t .1) in
     record { of-first = width-readable first (u .1); of-coord = width-readable coord (t .0); of-comp = width-readable comp (u .0) }
+
+pub layout-widths : (flag : FlagWidth) (coord comp entries : ℕ) → layoutReadable coord comp flag entries ≡ true → Widths (firstWidth flag coord) coord comp
+unfolding layoutReadable
+layout-widths flag coord comp entries e =
+    widths-readable (firstWidth flag coord) coord comp (both-true (widthsReadable (firstWidth flag coord) coord comp) (leb 4 entries) e .0)
 
 -- every width of a record: its first number's, then so many coordinates', then components'
 pub record-widths : {first coord comp : ℕ} (coords comps : ℕ) → Widths first coord comp

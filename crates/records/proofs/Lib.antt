@@ -8,3 +8,7 @@ pub mod Runs
 pub mod Finding
 pub mod Walks
 pub mod Filling
+pub mod Meanings
+pub mod Cleared
+pub mod Parting
+pub mod Changed

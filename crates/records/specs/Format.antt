@@ -2,7 +2,7 @@
 use mathlib.Core.Bool.{Bool, true, false, _&&_, _||_, cond}
 use mathlib.Core.List.{List, [], _∷_, _++_}
 use mathlib.Core.Option.{Option, none, some}
-use Prim.Native.Nat.{ℕ, zero, suc, _+_, _*_}
+use Prim.Native.Nat.{ℕ, zero, suc, _+_, _*_, _%_}
 use lib.Dec.{leb, eqb}
 use lib.ListN.{length, take, drop, replicate}
 use Rattle.bits.specs.Bits.{number, stream}
@@ -21,6 +21,19 @@ sum (w ∷ ws) = w + sum ws
 unfoldable pub numbers : List ℕ → List ℕ → List ℕ
 numbers [] bits = []
 numbers (w ∷ ws) bits = number (take w bits) ∷ numbers ws (drop w bits)
+
+-- ---- a flag
+
+-- What a flag means, by the number read. The ported reading, the raw readers, the writers and the lists take the whole number. ISO 32000-1 uses
+-- only the least significant two bits (8.7.4.5.5 and 8.7.4.5.7), and so does the published reading of bytes.
+abbrev pub Meaning : Type 0
+Meaning = ℕ → ℕ
+
+abbrev pub wholeNumber : Meaning
+wholeNumber x = x
+
+abbrev pub twoLowBits : Meaning
+twoLowBits x = x % 4
 
 -- ---- a mesh type
 
@@ -56,8 +69,13 @@ abbrev pub widthsOf : ℕ → ℕ → ℕ → Shape → Option (List ℕ)
 widthsOf coord comp n (Follows coords colours) = some (replicate coords coord ++ replicate (colours * n) comp)
 widthsOf coord comp n Ends = none
 
+-- a mesh type, where a record's first number, if it is a flag, has a meaning
+abbrev pub formatBy : Meaning → Kind → ℕ → ℕ → ℕ → ℕ → Format
+formatBy flag kind first coord comp n =
+    record { first = first; more = λ started x. widthsOf coord comp n (shapeOf kind started (flag x)) }
+
 abbrev pub format : Kind → ℕ → ℕ → ℕ → ℕ → Format
-format kind first coord comp n = record { first = first; more = λ started x. widthsOf coord comp n (shapeOf kind started x) }
+format kind first coord comp n = formatBy wholeNumber kind first coord comp n
 
 -- ---- the raw reading: the numbers before Decode, flags included, complete records only
 

@@ -5,7 +5,7 @@ use mathlib.Core.Bool.{Bool, true, false, cond}
 use mathlib.Core.List.{List, _++_}
 use native.Mathlib.Omega.{arith}
 use lib.Dec.{leb}
-use lib.ListN.{length, length-append}
+use lib.ListN.{length, length-append, getD}
 use borrow.Author.Tests.{le-leb}
 use lib.Ieee.{Float, nan}
 use Rattle.lists.specs.Lists.{part}
@@ -14,12 +14,13 @@ use Rattle.lists.proofs.Pieces.{length-part}
 use Rattle.lists.proofs.Placing.{placed-written, placed-sized}
 use Rattle.answers.specs.Limits.{mostBytes}
 use Rattle.bits.proofs.Answers.{answer-number}
-use Rattle.decode.specs.Decode.{Ranges}
+use Rattle.decode.specs.Decode.{Ranges, flagOf}
 use Rattle.colour.specs.Inner.Places.{vertexAt, pointsAt, coloursAt}
 use Rattle.colour.proofs.Lengths.{length-vertexAt, length-pointsAt, length-coloursAt}
 use Rattle.rows.specs.declared.Layout.{Layout}
-use Rattle.rows.specs.Inner.Layouts.{numbersOf, vertexIn, flagIn, flagAt}
+use Rattle.rows.specs.Inner.Layouts.{numbersOf, vertexIn, masked, flagIn, flagAt}
 use Rattle.rows.specs.Inner.Placing.{runPlaces, runFits, copyFits, bitsFit, cornerFits, NumbersThere, pointsAlone, coloursAlone, sharedRows, rowIndex}
+use Rattle.rows.proofs.Masks.{whole-masked, flag-below}
 use Rattle.rows.proofs.Sources.{numbers-listed, numbers-bits}
 use Rattle.rows.proofs.Fits.{run-fits, copy-fits, rows-fit, bits-fit}
 use Rattle.rows.proofs.Standings.{standing-less}
@@ -78,21 +79,23 @@ module _ (L : Layout) (s : List ℕ) (vs : List Float) where
         placed-written (rw is at d) (rw (fit, numbers-there p w))
         (omega (arith, shared-end entry side (10 + L .n) at, length-vertexAt (numbersOf L s vs R) (L .coord) (L .comp) (L .n) p))
 
-  module _ (p : ℕ) where
-    flag-listed : L .listed ≡ true → flagAt L s vs p ≡ flagIn L s vs p
+  module _ (mask p : ℕ) where
+    flag-listed : L .listed ≡ true → mask ≡ 4294967295 → masked mask (flagAt L s vs p) ≡ flagIn L mask s vs p
     unfolding flagAt flagIn
-    flag-listed e = rw e
+    flag-listed e w = rw (e, w) (whole-masked (flagOf (getD vs p nan)) (flag-below (getD vs p nan)))
 
-    flag-in-bits : L .listed ≡ false → 1 ≤ L .flag → L .flag ≤ 32 → length s ≤ mostBytes → p + L .flag ≤ 8 * length s → flagAt L s vs p ≡ flagIn L s vs p
+    flag-in-bits : L .listed ≡ false → 1 ≤ L .flag → L .flag ≤ 32 → length s ≤ mostBytes → p + L .flag ≤ 8 * length s
+        → masked mask (flagAt L s vs p) ≡ flagIn L mask s vs p
     unfolding flagAt flagIn
     flag-in-bits e a b c d = rw (e, ← (answer-number s p (L .flag) a b d (omega arith)))
 
+    -- what is left of a flag by the mask is what it means; that of a list is left whole
     pub flag-there : (L .listed ≡ false → (1 ≤ L .flag) × (L .flag ≤ 32) × (length s ≤ mostBytes) × (p + L .flag ≤ 8 * length s))
-        → flagAt L s vs p ≡ flagIn L s vs p
-    flag-there h = by-kind (L .listed) refl
+        → (L .listed ≡ true → mask ≡ 4294967295) → masked mask (flagAt L s vs p) ≡ flagIn L mask s vs p
+    flag-there h w = by-kind (L .listed) refl
       where
-        by-kind : (b : Bool) → L .listed ≡ b → flagAt L s vs p ≡ flagIn L s vs p
-        by-kind true e = flag-listed e
+        by-kind : (b : Bool) → L .listed ≡ b → masked mask (flagAt L s vs p) ≡ flagIn L mask s vs p
+        by-kind true e = flag-listed e (w e)
         by-kind false e =
             let f = h e in
             flag-in-bits e (f .0) (f .1) (f .2) (f .3)

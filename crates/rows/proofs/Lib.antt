@@ -4,4 +4,5 @@ pub mod Sources
 pub mod Standings
 pub mod Vertices
 pub mod Corners
+pub mod Masks
 pub mod Callers

@@ -19,6 +19,11 @@ mod numbers;
 mod ranges;
 mod writing;
 
+// Which bits of a flag count. A reader of bytes chooses once; the flags of a list are whole numbers.
+pub const WHOLE_NUMBER: u32 = 0xffff_ffff;
+
+pub const TWO_LOW_BITS: u32 = 3;
+
 // How the numbers of a record stand. In bits a flag, a coordinate and a component have so many; in a list each number takes one place. A colour has n
 // components.
 pub struct Layout {
@@ -55,7 +60,7 @@ pub fn fill_ranges(layout: Layout, decode: &[f64], ranges: &mut [f64; 68])
     ranges::fill(decode, layout.coord, layout.comp, ranges);
 }
 
-// The flag at a place; 0 where there is none.
+// The flag at a place as a whole number; 0 where there is none.
 pub fn flag_at(data: &[u8], values: &[f64], layout: Layout, place: Place) -> u32
     ensures { λ r. ⌜ r ≡ flagAt layout (now («data» .entry)) (now (values .entry)) (place .0) ⌝ }
 {

@@ -2,6 +2,7 @@ pub mod Properties
 pub mod Lists
 pub mod Triangles
 pub mod TwoRules
+pub mod TwoMeanings
 pub mod Ported
 pub mod Lattice
 pub mod Tables
@@ -10,3 +11,5 @@ pub mod Meshes
 pub mod Walks
 pub mod Rows
 pub mod RawReading
+pub mod Alike
+pub mod Parting

@@ -4,6 +4,7 @@ ghost use mathlib.Core.Option.{none};
 ghost use lib.ListN.{length};
 ghost use Rattle.answers.specs.Outcome.{Tells};
 ghost use Rattle.records.specs.declared.shape.Kind.the-variants as Kind;
+ghost use Rattle.records.specs.Format.{wholeNumber, twoLowBits};
 ghost use Rattle.records.specs.Raw.{rawRead};
 ghost use Rattle.packing.specs.Writer.{rawWrite};
 ghost use Rattle.rules.specs.Triangles.{triangleBefore, triangles};
@@ -25,7 +26,7 @@ pub extern "C" fn mesh_parse_type4(
     n: usize,
     out: &mut [f64],
 ) -> Told
-    ensures { λ r. ⌜ Tells (parse4 (binaryReader none 0) (now («data» .entry)) coord comp flag (now (decode .entry)) n (length (now (out .entry)))) (now (out .entry)) r (now (out .exit)) ⌝ }
+    ensures { λ r. ⌜ Tells (parse4 wholeNumber (binaryReader none 0) (now («data» .entry)) coord comp flag (now (decode .entry)) n (length (now (out .entry)))) (now (out .entry)) r (now (out .exit)) ⌝ }
 {
     answers::tell(triangles::parse_type4_mesh(data, coord, comp, flag, decode, n, out))
 }
@@ -55,7 +56,7 @@ pub extern "C" fn mesh_parse_type6(
     n: usize,
     out: &mut [f64],
 ) -> Told
-    ensures { λ r. ⌜ Tells (parse6 sides (now («data» .entry)) coord comp flag (now (decode .entry)) n (length (now (out .entry)))) (now (out .entry)) r (now (out .exit)) ⌝ }
+    ensures { λ r. ⌜ Tells (parse6 wholeNumber sides (now («data» .entry)) coord comp flag (now (decode .entry)) n (length (now (out .entry)))) (now (out .entry)) r (now (out .exit)) ⌝ }
 {
     answers::tell(patches::parse_type6_patches(data, coord, comp, flag, decode, n, out))
 }
@@ -70,7 +71,7 @@ pub extern "C" fn mesh_parse_type7(
     n: usize,
     out: &mut [f64],
 ) -> Told
-    ensures { λ r. ⌜ Tells (parse7 sides (now («data» .entry)) coord comp flag (now (decode .entry)) n (length (now (out .entry)))) (now (out .entry)) r (now (out .exit)) ⌝ }
+    ensures { λ r. ⌜ Tells (parse7 wholeNumber sides (now («data» .entry)) coord comp flag (now (decode .entry)) n (length (now (out .entry)))) (now (out .entry)) r (now (out .exit)) ⌝ }
 {
     answers::tell(patches::parse_type7_patches(data, coord, comp, flag, decode, n, out))
 }
@@ -87,7 +88,7 @@ pub extern "C" fn mesh_published_type4(
     n: usize,
     out: &mut [f64],
 ) -> Told
-    ensures { λ r. ⌜ Tells (parse4 (triangles triangleBefore) (now («data» .entry)) coord comp flag (now (decode .entry)) n (length (now (out .entry)))) (now (out .entry)) r (now (out .exit)) ⌝ }
+    ensures { λ r. ⌜ Tells (parse4 twoLowBits (triangles triangleBefore) (now («data» .entry)) coord comp flag (now (decode .entry)) n (length (now (out .entry)))) (now (out .entry)) r (now (out .exit)) ⌝ }
 {
     answers::tell(triangles::published_type4_mesh(data, coord, comp, flag, decode, n, out))
 }
@@ -117,7 +118,7 @@ pub extern "C" fn mesh_published_type6(
     n: usize,
     out: &mut [f64],
 ) -> Told
-    ensures { λ r. ⌜ Tells (parse6 sides (now («data» .entry)) coord comp flag (now (decode .entry)) n (length (now (out .entry)))) (now (out .entry)) r (now (out .exit)) ⌝ }
+    ensures { λ r. ⌜ Tells (parse6 twoLowBits sides (now («data» .entry)) coord comp flag (now (decode .entry)) n (length (now (out .entry)))) (now (out .entry)) r (now (out .exit)) ⌝ }
 {
     answers::tell(patches::published_type6_patches(data, coord, comp, flag, decode, n, out))
 }
@@ -132,7 +133,7 @@ pub extern "C" fn mesh_published_type7(
     n: usize,
     out: &mut [f64],
 ) -> Told
-    ensures { λ r. ⌜ Tells (parse7 sides (now («data» .entry)) coord comp flag (now (decode .entry)) n (length (now (out .entry)))) (now (out .entry)) r (now (out .exit)) ⌝ }
+    ensures { λ r. ⌜ Tells (parse7 twoLowBits sides (now («data» .entry)) coord comp flag (now (decode .entry)) n (length (now (out .entry)))) (now (out .entry)) r (now (out .exit)) ⌝ }
 {
     answers::tell(patches::published_type7_patches(data, coord, comp, flag, decode, n, out))
 }

@@ -17,7 +17,7 @@ use Rattle.decode.specs.Floats.{float0}
 use Rattle.decode.specs.Decode.{Ranges, ranges}
 use Rattle.decode.proofs.Exact.{exact}
 use Rattle.records.specs.declared.shape.Kind.the-variants.{Six}
-use Rattle.records.specs.Format.{format, rawReading}
+use Rattle.records.specs.Format.{format, rawReading, wholeNumber}
 use Rattle.rules.specs.Patches.{Patch, sides}
 use Rattle.rules.specs.Clauses.{tensorOrder}
 use Rattle.rules.specs.Meshes.{Source, patches, patchMesh}
@@ -25,7 +25,6 @@ use Rattle.rules.proofs.Lists.{all-map}
 use Rattle.rules.proofs.Tables.{sides-fit}
 use Rattle.rules.proofs.Patches.{each}
 use Rattle.rules.proofs.Meshes.{Numbered, patches-numbered}
-use Rattle.rules.proofs.RawReading.{itself}
 use Rattle.meshes.specs.Decoded.{decoded, byDecode}
 use Rattle.meshes.proofs.Standing.{reads-decode}
 use Rattle.tensor.specs.Turning.{raw, rounded, placeOf, coordinate, tensorPatch, innerPoint, innerNames}
@@ -218,7 +217,7 @@ plain w comp entries = ranges (float0 ∷ greatest w ∷ float0 ∷ greatest w �
 
 module _ (w comp n : ℕ) (entries : List Float) (some-bits : 1 ≤ w) (few-bits : w ≤ 32) where
   abbrev decode : Source ℕ Float
-  decode = byDecode (plain w comp entries)
+  decode = byDecode wholeNumber (plain w comp entries)
 
   decoded-point : (point : List ℕ) → length point ≡ 2 → AllBelow (2 ^ w) point → decoded (plain w comp entries) 0 point ≡ map exactly point
   unfolding decoded
@@ -254,9 +253,9 @@ module _ (w comp n : ℕ) (entries : List Float) (some-bits : 1 ≤ w) (few-bits
   -- the raw patches turned, and the patches of the reader's answer turned
   pub raw-and-f64-agree : (first : ℕ) (s : List ℕ) → let xs : List ℕ = rawReading (format Six first w comp n) s in
       Pairwise Agrees (map (tensorPatch raw) (patches 0 sides (λ x. x) 8 n xs))
-      (map (tensorPatch rounded) (readPatches n (patchMesh sides 8 (byDecode (plain w comp entries)) n xs .numbers)))
+      (map (tensorPatch rounded) (readPatches n (patchMesh sides 8 (byDecode wholeNumber (plain w comp entries)) n xs .numbers)))
   raw-and-f64-agree first s =
       let xs : List ℕ = rawReading (format Six first w comp n) s in
-      let reads = reads-decode (plain w comp entries) in
+      let reads = reads-decode wholeNumber (plain w comp entries) in
       rw (taken-apart decode n (reads .point-sized) (reads .colour-sized n) xs)
-      (each-agrees (patches 0 sides itself 8 n xs) (patches-numbered 0 itself 8 n sides (sides-fit .0) xs) (coordinates-below first w comp n s))
+      (each-agrees (patches 0 sides wholeNumber 8 n xs) (patches-numbered 0 wholeNumber 8 n sides (sides-fit .0) xs) (coordinates-below first w comp n s))

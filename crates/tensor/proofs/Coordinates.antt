@@ -16,14 +16,14 @@ use Rattle.bits.proofs.Digits.{number-below}
 use Rattle.bits.proofs.Streams.{stream-below}
 use Rattle.records.specs.declared.shape.Kind.the-variants.{Six}
 use Rattle.records.specs.declared.shape.Shape.the-variants.{Follows, Ends}
-use Rattle.records.specs.Format.{sum, numbers, Format, pointsAfter, coloursAfter, widthsOf, format, next, readings, rawReading}
+use Rattle.records.specs.Format.{sum, numbers, Format, pointsAfter, coloursAfter, widthsOf, format, next, readings, rawReading, wholeNumber}
 use Rattle.records.proofs.Readings.{length-numbers, numbers-then, next-some, readings-none}
 use Rattle.rules.specs.Patches.{Patch, Piece, Places, sides, at}
 use Rattle.rules.specs.Meshes.{groups, piece, pieces, patches}
 use Rattle.rules.proofs.Lists.{all-joined, all-at}
 use Rattle.rules.proofs.Patches.{mesh-has}
 use Rattle.rules.proofs.Meshes.{pieces-none}
-use Rattle.rules.proofs.RawReading.{itself, pieces-reading}
+use Rattle.rules.proofs.RawReading.{pieces-reading}
 
 pub all-getD : {A : Type 0} (P : A → Type 0) (d : A) (l : List A) (i : ℕ) → All P l → i < length l → P (getD l i d)
 all-getD P d [] i a h = absurd (omega arith)
@@ -81,29 +81,29 @@ module _ (first w comp n : ℕ) where
       (omega (arith, length-numbers (replicate a w) b, length-replicate a w)))
 
   abbrev found : ℕ → Bool → List ℕ → List (Piece (List ℕ) (List ℕ))
-  found k started b = pieces 0 itself 8 n (readings F k started b)
+  found k started b = pieces 0 wholeNumber 8 n (readings F k started b)
 
   abbrev Below : List (Piece (List ℕ) (List ℕ)) → Type 0
   Below qs = All (λ (q : Piece (List ℕ) (List ℕ)). PointsBelow (2 ^ w) (q .body)) qs
 
   pieces-below : (k : ℕ) (started : Bool) (b : List ℕ) → AllBelow 2 b → Below (found k started b)
   unfolding readings
-  pieces-below zero started b h = rw (pieces-none 0 8 n itself) tt
+  pieces-below zero started b h = rw (pieces-none 0 8 n wholeNumber) tt
   pieces-below (suc k) started b h =
       go (next F started b) refl (λ c l. pieces-below k true c l)
     where
       go : (o : Option (List ℕ)) → next F started b ≡ o → ((c : List ℕ) → AllBelow 2 c → Below (found k true c))
           → Below (found (suc k) started b)
-      go none e ih = rw (readings-none F (suc k) started b e, pieces-none 0 8 n itself) tt
+      go none e ih = rw (readings-none F (suc k) started b e, pieces-none 0 8 n wholeNumber) tt
       go (some vs) e ih =
           let r = next-some F started b vs e in
           let x : ℕ = number (take first b) in
-          rw (pieces-reading 8 first w comp n k started b (r .0) (r .1) (e ∙ ap some (r .2))) (
+          rw (pieces-reading wholeNumber 8 first w comp n k started b (r .0) (r .1) (e ∙ ap some (r .2))) (
             rw (widths-after started x (r .0) (r .1)) (piece-below x (drop first b) (all-drop _ first b h)),
             ih (drop (first + sum (r .0)) b) (all-drop _ (first + sum (r .0)) b h),
           )
 
-  pub coordinates-below : (s : List ℕ) → All (PointsBelow (2 ^ w)) (patches 0 sides itself 8 n (rawReading (format Six first w comp n) s))
+  pub coordinates-below : (s : List ℕ) → All (PointsBelow (2 ^ w)) (patches 0 sides wholeNumber 8 n (rawReading (format Six first w comp n) s))
   unfolding patches rawReading
   coordinates-below s =
       mesh-has sides (λ (side : Places). Unit {0}) (λ (f : ℕ). PointsBelow (2 ^ w)) (PointsBelow (2 ^ w)) (tt, (tt, (tt, tt)))

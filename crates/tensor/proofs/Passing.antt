@@ -15,12 +15,11 @@ use Rattle.lists.proofs.Pieces.{flat-append, flat-more}
 use Rattle.lists.proofs.Writing.{written-none, written-then}
 use Rattle.records.specs.declared.shape.Kind.the-variants.{Six}
 use Rattle.records.specs.declared.shape.Shape.the-variants.{Follows}
-use Rattle.records.specs.Format.{shapeOf}
+use Rattle.records.specs.Format.{shapeOf, wholeNumber}
 use Rattle.rules.specs.Patches.{sides, patchOf, mesh}
 use Rattle.rules.specs.Meshes.{piece, pieces, sizeAfter}
 use Rattle.rules.proofs.Meshes.{Numbered, patches-numbered}
 use Rattle.rules.proofs.Tables.{sides-fit}
-use Rattle.rules.proofs.RawReading.{itself}
 use Rattle.tensor.specs.declared.raw.Coons.{Coons}
 use Rattle.tensor.specs.Turning.{raw, tensorPatch, numbersOf}
 use Rattle.tensor.specs.Outcomes.{wholeRecords}
@@ -99,9 +98,9 @@ module _ {n : ℕ} {xs : List ℕ} {l o : List ℤ} {c : Coons} {at i : ℕ} (p 
     unfolding flat
     pass-room room =
         let q : Raw = patchIn n xs c′ in
-        let rest : List Raw = mesh sides (some q) (pieces 0 itself 8 n (drop (c′ .c33 + 2 * n) xs)) in
+        let rest : List Raw = mesh sides (some q) (pieces 0 wholeNumber 8 n (drop (c′ .c33 + 2 * n) xs)) in
         let split : patchesOf n xs ≡ p .done ++ (q ∷ rest) = walked .split ∙ append-assoc (p .done) (q ∷ []) rest in
-        let all = patches-numbered 0 itself 8 n sides (sides-fit .0) xs in
+        let all = patches-numbered 0 wholeNumber 8 n sides (sides-fit .0) xs in
         let one = length-row raw n q (all-middle (Numbered 12 4 n) (p .done) q rest (subst (All (Numbered 12 4 n)) split all)) in
         let parts : length (flat rowOf (patchesOf n xs)) ≡ length (flat rowOf (p .done)) + (length (rowOf q) + length (flat rowOf rest)) =
         ap (λ (ps : List Raw). length (flat rowOf ps)) split

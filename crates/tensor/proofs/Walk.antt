@@ -12,12 +12,12 @@ use lib.Seq.{drop-cons, drop-drop, drop-length}
 use Rattle.records.specs.declared.shape.Kind.the-variants.{Six}
 use Rattle.records.specs.declared.shape.Shape.{Shape}
 use Rattle.records.specs.declared.shape.Shape.the-variants.{Follows, Ends}
-use Rattle.records.specs.Format.{shapeOf, widthsOf}
+use Rattle.records.specs.Format.{shapeOf, widthsOf, wholeNumber}
 use Rattle.rules.specs.Patches.{sides, patchOf, mesh}
 use Rattle.rules.specs.Meshes.{piece, pieces, patches, sizeAfter}
 use Rattle.rules.proofs.Patches.{mesh-more}
 use Rattle.rules.proofs.Meshes.{pieces-none, pieces-more}
-use Rattle.rules.proofs.RawReading.{there, itself, more-gives}
+use Rattle.rules.proofs.RawReading.{there, more-gives}
 use Rattle.tensor.specs.declared.raw.Counted.{Counted}
 use Rattle.tensor.specs.declared.raw.Counted.the-variants.{Patches, Broken}
 use Rattle.tensor.specs.Outcomes.{wholeRecords}
@@ -78,7 +78,7 @@ pub record Walk (n : ℕ) (xs : List ℕ) (b : Option Raw) (i : ℕ) (done : Lis
   pub fuel : ℕ
   pub enough : length xs ≤ i + fuel
   pub begun : ltb 0 i ≡ there b
-  pub split : patchesOf n xs ≡ done ++ mesh sides b (pieces 0 itself 8 n (drop i xs))
+  pub split : patchesOf n xs ≡ done ++ mesh sides b (pieces 0 wholeNumber 8 n (drop i xs))
   pub rest : wholeRecords (length xs) n false xs ≡ wholeRecords fuel n (there b) (drop i xs)
 
 pub walk-start : (n : ℕ) (xs : List ℕ) → Walk n xs none 0 []
@@ -97,7 +97,7 @@ module _ {n : ℕ} {xs : List ℕ} {b : Option Raw} {i : ℕ} {done : List Raw} 
   walk-end h =
       let nothing : drop i xs ≡ [] = ap (λ (j : ℕ). drop j xs) h ∙ drop-length xs in (
         w .rest ∙ rw nothing (records-none n (w .fuel) (there b)),
-        w .split ∙ rw (nothing, pieces-none 0 8 n itself) (append-nil done),
+        w .split ∙ rw (nothing, pieces-none 0 8 n wholeNumber) (append-nil done),
       )
 
   -- the whole list by the record at index i
@@ -136,11 +136,11 @@ module _ {n : ℕ} {xs : List ℕ} {b : Option Raw} {i : ℕ} {done : List Raw} 
         begun = lt-ltb 0 (i + (1 + coords + colours * n)) (omega arith);
         split =
             w .split
-            ∙ ap (λ (ys : List ℕ). done ++ mesh sides b (pieces 0 itself 8 n ys)) (drop-cons xs i 0 h)
-            ∙ ap (λ (qs : List _). done ++ mesh sides b qs) (pieces-more 0 8 n itself flag after (rw (← (f .sized)) all))
-            ∙ ap (λ (ps : List Raw). done ++ ps) (mesh-more sides b (piece 0 8 n flag after) (pieces 0 itself 8 n (drop (sizeAfter 8 n flag) after)) p made)
-            ∙ ap (λ (ys : List ℕ). done ++ (p ∷ mesh sides (some p) (pieces 0 itself 8 n ys))) (rw (← (f .sized)) next)
-            ∙ sym (append-assoc done (p ∷ []) (mesh sides (some p) (pieces 0 itself 8 n (drop (i + (1 + coords + colours * n)) xs))));
+            ∙ ap (λ (ys : List ℕ). done ++ mesh sides b (pieces 0 wholeNumber 8 n ys)) (drop-cons xs i 0 h)
+            ∙ ap (λ (qs : List _). done ++ mesh sides b qs) (pieces-more 0 8 n wholeNumber flag after (rw (← (f .sized)) all))
+            ∙ ap (λ (ps : List Raw). done ++ ps) (mesh-more sides b (piece 0 8 n flag after) (pieces 0 wholeNumber 8 n (drop (sizeAfter 8 n flag) after)) p made)
+            ∙ ap (λ (ys : List ℕ). done ++ (p ∷ mesh sides (some p) (pieces 0 wholeNumber 8 n ys))) (rw (← (f .sized)) next)
+            ∙ sym (append-assoc done (p ∷ []) (mesh sides (some p) (pieces 0 wholeNumber 8 n (drop (i + (1 + coords + colours * n)) xs))));
         rest = l .1 .1 ∙ rw (le-leb _ _ all, next);
       }
 
@@ -148,7 +148,7 @@ module _ {n : ℕ} {xs : List ℕ} {b : Option Raw} {i : ℕ} {done : List Raw} 
   pub walk-makes : (coords colours : ℕ) → shapeOf Six (ltb 0 i) flag ≡ Follows coords colours
       → (p : Raw) × (patchOf sides b flag (piece 0 8 n flag after .body) ≡ some p)
   walk-makes coords colours e =
-      more-gives 8 0 0 0 n b flag (piece 0 8 n flag after .body) _ (ap (widthsOf 0 0 n) (rw (w .begun) at e))
+      more-gives wholeNumber 8 0 0 0 n b flag (piece 0 8 n flag after .body) _ (ap (widthsOf 0 0 n) (rw (w .begun) at e))
 
   -- where the whole list is accepted, so is each record
   pub walk-goes : wholeRecords (length xs) n false xs ≡ true → i < length xs

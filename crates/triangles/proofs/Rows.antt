@@ -1,6 +1,6 @@
 -- Where vertices lie, that their places can be counted, and how long their rows are; a row alone and beside others. Assumes nothing.
 use Prim.Native.Nat.{ℕ, _+_, _-_, _*_, _^_, _≤_, _<_}
-use mathlib.Core.Path.{_≡_, refl, _∙_}
+use mathlib.Core.Path.{_≡_, refl, _∙_, ap}
 use mathlib.Core.Bool.{Bool, true, false}
 use mathlib.Core.List.{List, _++_, append-assoc}
 use native.Mathlib.Omega.{arith}
@@ -12,7 +12,7 @@ use Rattle.lists.specs.Writing.{Written, Placed}
 use Rattle.lists.proofs.Pieces.{length-part}
 use Rattle.decode.specs.Decode.{Ranges}
 use Rattle.colour.proofs.Lengths.{length-vertexAt}
-use Rattle.rows.specs.Inner.Layouts.{numbersOf, vertexIn, flagAt}
+use Rattle.rows.specs.Inner.Layouts.{numbersOf, vertexIn, masked, flagAt}
 use Rattle.rows.specs.Inner.Placing.{NumbersThere, sharedRows, rowIndex, cornerFits}
 use Rattle.rows.proofs.Corners.{no-shared, two-shared, index-alone, index-joined}
 use Rattle.rows.proofs.Callers.{corner-placed, flag-there}
@@ -37,11 +37,11 @@ module _ {v : Vertices} {s : List ℕ} {vs : List Float} (h : VerticesThere v s 
       go false e = let b = h .in-bits e in omega (arith, ends-in-bits e, h .sized)
       go true e = let b = h .in-list e in omega (arith, ends-in-list e, h .sized)
 
-  pub flag-here : {f : ℕ} → Flagged v → f ≡ flagAt (v .layout) s vs (i * v .size) → f ≡ flagOfVertex v s vs i
+  pub flag-here : {f : ℕ} → Flagged v → f ≡ flagAt (v .layout) s vs (i * v .size) → masked (v .mask) f ≡ flagOfVertex v s vs i
   unfolding flagOfVertex
   flag-here g e =
-      e ∙ flag-there (v .layout) s vs (i * v .size)
-      (λ l. let b = h .in-bits l in (g .some-bits, g .few-bits, b .short, omega (arith, ends-in-bits l, h .sized)))
+      ap (masked (v .mask)) e ∙ flag-there (v .layout) s vs (v .mask) (i * v .size)
+      (λ l. let b = h .in-bits l in (g .some-bits, g .few-bits, b .short, omega (arith, ends-in-bits l, h .sized))) (g .listed-whole)
 
   -- its coordinates and components stand there
   stands : NumbersThere (v .layout) s vs (i * v .size + v .layout .flag) (2 * v .layout .coord + v .layout .n * v .layout .comp)

@@ -5,6 +5,8 @@ ghost use mathlib.Core.List.{[]};
 ghost use mathlib.Core.Option.{none};
 ghost use lib.ListN.{length};
 ghost use Rattle.answers.specs.Outcome.{Done};
+ghost use Rattle.records.specs.Format.{wholeNumber, twoLowBits};
+ghost use Rattle.rows.specs.Inner.Layouts.{masked};
 ghost use Rattle.rules.specs.Triangles.{triangleBefore, triangles};
 ghost use Rattle.rules.specs.Ported.{binaryReader, listBuilder};
 ghost use Rattle.meshes.specs.Outcomes.{parse4, parse5, build4, build5};
@@ -24,16 +26,18 @@ mod vertices;
 
 // ---- from bits
 
+// Both readings: the mask has the bits of a flag that count.
 fn read_type4(
     data: &[u8],
     coord: usize,
     comp: usize,
     flag: usize,
+    mask: u32,
     decode: &[f64],
     n: usize,
     out: &mut [f64],
 ) -> Answer
-    ensures { λ r. ⌜ Done (parse4 (triangles triangleBefore) (now («data» .entry)) coord comp flag (now (decode .entry)) n (length (now (out .entry)))) (now (out .entry)) r (now (out .exit)) ⌝ }
+    ensures { λ r. ⌜ Done (parse4 (masked mask) (triangles triangleBefore) (now («data» .entry)) coord comp flag (now (decode .entry)) n (length (now (out .entry)))) (now (out .entry)) r (now (out .exit)) ⌝ }
 {
     if !mesh_layout_is_readable(coord, comp, FlagWidth::Bits(flag), decode.len()) {
         return Answer::Refused(Refusal::Layout);
@@ -51,7 +55,7 @@ fn read_type4(
         comp,
         n,
     };
-    let vertices = vertices_in(layout, 8 * data.len());
+    let vertices = vertices_in(layout, mask, 8 * data.len());
     free_form(data, &decode[0..0], decode, vertices, false, out)
 }
 
@@ -82,11 +86,11 @@ fn read_type5(
         comp,
         n,
     };
-    let vertices = vertices_in(layout, 8 * data.len());
+    let vertices = vertices_in(layout, rows::WHOLE_NUMBER, 8 * data.len());
     lattice_form(data, &decode[0..0], decode, vertices, row, out)
 }
 
-// The Type 4 reader of 000.
+// The Type 4 reader of 000: a flag is the whole number.
 pub fn parse_type4_mesh(
     data: &[u8],
     coord: usize,
@@ -96,12 +100,12 @@ pub fn parse_type4_mesh(
     n: usize,
     out: &mut [f64],
 ) -> Answer
-    ensures { λ r. ⌜ Done (parse4 (binaryReader none 0) (now («data» .entry)) coord comp flag (now (decode .entry)) n (length (now (out .entry)))) (now (out .entry)) r (now (out .exit)) ⌝ }
+    ensures { λ r. ⌜ Done (parse4 wholeNumber (binaryReader none 0) (now («data» .entry)) coord comp flag (now (decode .entry)) n (length (now (out .entry)))) (now (out .entry)) r (now (out .exit)) ⌝ }
 {
-    read_type4(data, coord, comp, flag, decode, n, out)
+    read_type4(data, coord, comp, flag, rows::WHOLE_NUMBER, decode, n, out)
 }
 
-// Type 4 as ISO 32000-1, 8.7.4.5.5, has it, but for what docs/DIFFERENCES.md lists: the same triangles.
+// Type 4 as ISO 32000-1, 8.7.4.5.5, has it, but for what docs/DIFFERENCES.md lists: a flag is its two low bits.
 pub fn published_type4_mesh(
     data: &[u8],
     coord: usize,
@@ -111,9 +115,9 @@ pub fn published_type4_mesh(
     n: usize,
     out: &mut [f64],
 ) -> Answer
-    ensures { λ r. ⌜ Done (parse4 (triangles triangleBefore) (now («data» .entry)) coord comp flag (now (decode .entry)) n (length (now (out .entry)))) (now (out .entry)) r (now (out .exit)) ⌝ }
+    ensures { λ r. ⌜ Done (parse4 twoLowBits (triangles triangleBefore) (now («data» .entry)) coord comp flag (now (decode .entry)) n (length (now (out .entry)))) (now (out .entry)) r (now (out .exit)) ⌝ }
 {
-    read_type4(data, coord, comp, flag, decode, n, out)
+    read_type4(data, coord, comp, flag, rows::TWO_LOW_BITS, decode, n, out)
 }
 
 // The Type 5 reader of 000.
@@ -164,7 +168,7 @@ fn build_type4(values: &[f64], n: usize, last_three: bool, out: &mut [f64]) -> A
         comp: 1,
         n,
     };
-    let vertices = vertices_in(layout, values.len());
+    let vertices = vertices_in(layout, rows::WHOLE_NUMBER, values.len());
     let none = [0u8; 1];
     free_form(&none, values, &values[0..0], vertices, last_three, out)
 }
@@ -185,7 +189,7 @@ fn build_type5(values: &[f64], n: usize, row: usize, out: &mut [f64]) -> Answer
         comp: 1,
         n,
     };
-    let vertices = vertices_in(layout, values.len());
+    let vertices = vertices_in(layout, rows::WHOLE_NUMBER, values.len());
     let none = [0u8; 1];
     lattice_form(&none, values, &values[0..0], vertices, row, out)
 }

@@ -11,23 +11,26 @@ ghost use Rattle.triangles.specs.Inner.Vertices.{verticesIn, VerticesThe
 use rows::Layout;
 use rows::Place;
 
-// How the vertices stand one after the other: each takes size places, of which those of its flag come first.
+// How the vertices stand one after the other: each takes size places, of which those of its flag come first. The mask has the bits of a flag that count.
 pub struct Vertices {
     pub layout: Layout,
+    pub mask: u32,
     pub size: usize,
     pub total: usize,
 }
 
 // As many vertices as so many places hold.
-pub fn vertices_in(layout: Layout, limit: usize) -> Vertices
+pub fn vertices_in(layout: Layout, mask: u32, limit: usize) -> Vertices
     requires { ⌜ (1 ≤ layout .coord) × (layout .coord ≤ 32) × (layout .comp ≤ 32) × (layout .flag ≤ 32) × (layout .n ≤ 32) ⌝ }
-    ensures { λ r. ⌜ r ≡ verticesIn layout limit ⌝ }
+    ensures { λ r. ⌜ r ≡ verticesIn layout mask limit ⌝ }
 {
     let size = layout.flag + (2 * layout.coord + layout.n * layout.comp);
+    let total = limit / size;
     Vertices {
         layout,
+        mask,
         size,
-        total: limit / size,
+        total,
     }
 }
 
@@ -37,7 +40,8 @@ pub fn flag_at(data: &[u8], values: &[f64], vertices: Vertices, i: usize) -> u32
     ensures { λ r. ⌜ r ≡ flagOfVertex vertices (now («data» .entry)) (now (values .entry)) i ⌝ }
 {
     let layout = vertices.layout;
-    rows::flag_at(data, values, layout, Place(i * vertices.size))
+    let place = i * vertices.size;
+    rows::flag_at(data, values, layout, Place(place)) & vertices.mask
 }
 
 // Copies the row that stands in out from an index.

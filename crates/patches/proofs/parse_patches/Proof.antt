@@ -36,8 +36,8 @@ returns-3 c =
 own-points-requires : tie.Need-own-points-requires
 own-points-requires c κs = search needs
 
-mul-t19 : tie.Need-mul-t19
-mul-t19 c = search needs
+mul-t20 : tie.Need-mul-t20
+mul-t20 c = search needs
 
 sub-patches : tie.Need-sub-patches
 sub-patches c = search needs
@@ -60,7 +60,7 @@ patches-requires : tie.Need-patches-requires
 patches-requires c κs =
     let k = c .before .before in
     let form = start k .args .form in (
-      bits-there form _ _ _ _ _ _ _ _ (k .own-points .ensures) (readable k) (k .before .before .if2 .left) (k .before .if3 .left),
+      bits-there form _ _ _ _ _ _ _ _ _ (k .own-points .ensures) (readable k) (k .before .before .if2 .left) (k .before .if3 .left),
       table-suits Border form _ (k .own-points .ensures) (border-fits form),
     )
 
@@ -71,7 +71,7 @@ returns-4 : tie.Need-returns-4
 returns-4 c =
     let called = c .before .before in
     let k = called .before .before .before in
-    rw (bits-outcome _ _ _ _ _ _ _ _ (readable k) (k .before .before .if2 .left) (k .before .if3 .left) (start k .args .form) _ (k .own-points .ensures)) at
+    rw (bits-outcome _ _ _ _ _ _ _ _ _ (readable k) (k .before .before .if2 .left) (k .before .if3 .left) (start k .args .form) _ (k .own-points .ensures)) at
     (called .patches .ensures)
 
 pub parse-patches-spec : {M : Type 1} → statement M
@@ -83,7 +83,7 @@ parse-patches-spec =
     returns-2
     returns-3
     own-points-requires
-    mul-t19
+    mul-t20
     sub-patches
     part-patches-start
     part-patches-end

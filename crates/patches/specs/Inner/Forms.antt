@@ -9,6 +9,7 @@ use Rattle.answers.specs.Outcome.{Outcome}
 use Rattle.records.specs.declared.layout.FlagWidth.the-variants.{Bits}
 use Rattle.records.specs.declared.shape.Kind.{Kind}
 use Rattle.records.specs.declared.shape.Kind.the-variants.{Six, Seven}
+use Rattle.records.specs.Format.{Meaning}
 use Rattle.rules.specs.Patches.{Places, patch, Table, sides, listSides}
 use Rattle.rules.specs.Meshes.{patchMesh}
 use Rattle.meshes.specs.Outcomes.{parsed, built}
@@ -38,9 +39,9 @@ placesOf side = patch (side .points) (side .colours)
 abbrev pub TakenSide : Table → ℕ → Side → Type 0
 TakenSide T flag side = getElem? T (flag - 1) ≡ some (placesOf side)
 
-unfoldable pub parsedForm : Form → List ℕ → ℕ → ℕ → ℕ → List Float → ℕ → ℕ → Outcome Float
-parsedForm form s coord comp flag entries n room =
-    parsed (record { kind = typeOfForm form; flag = Bits flag; coord = coord; comp = comp; entries = entries; n = n })
+unfoldable pub parsedForm : Form → Meaning → List ℕ → ℕ → ℕ → ℕ → List Float → ℕ → ℕ → Outcome Float
+parsedForm form meaning s coord comp flag entries n room =
+    parsed (record { kind = typeOfForm form; meaning = meaning; flag = Bits flag; coord = coord; comp = comp; entries = entries; n = n })
     (patchMesh sides (ownOf form)) s room
 
 unfoldable pub builtForm : Form → Sides → List Float → ℕ → ℕ → Outcome Float

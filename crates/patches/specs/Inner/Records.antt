@@ -11,8 +11,8 @@ use Rattle.lists.specs.Lists.{All, part, flat}
 use Rattle.answers.specs.Limits.{mostComponents, mostBytes}
 use Rattle.decode.specs.Decode.{Ranges}
 use Rattle.colour.specs.Inner.Places.{pointsAt, coloursAt}
-use Rattle.records.specs.Format.{Format, pointsAfter, coloursAfter, patchShape, widthsOf, rawReading}
-use Rattle.rows.specs.Inner.Layouts.{numbersOf, flagIn}
+use Rattle.records.specs.Format.{Meaning, Format, pointsAfter, coloursAfter, patchShape, widthsOf, rawReading}
+use Rattle.rows.specs.Inner.Layouts.{numbersOf, masked, flagIn}
 use Rattle.rules.specs.Patches.{Places, Table}
 use Rattle.rules.specs.Inner.Sides.{Fits}
 use Rattle.rules.specs.Meshes.{Finished, patchMesh}
@@ -33,10 +33,10 @@ pub record Fair (m : Records) : Type 0 where
   pub n-few : m .layout .n ≤ mostComponents
   pub limit-few : m .limit ≤ 134217728
 
--- the places are those of the list, or those of the bits
+-- the places are those of the list, where a flag is the whole number, or those of the bits
 pub record RecordsThere (m : Records) (s : List ℕ) (vs : List Float) : Type 0 where
   pub fair : Fair m
-  pub in-list : m .layout .listed ≡ true → (m .limit ≡ length vs) × (m .layout .flag ≡ 1) × (m .layout .coord ≡ 1) × (m .layout .comp ≡ 1)
+  pub in-list : m .layout .listed ≡ true → (m .limit ≡ length vs) × (m .layout .flag ≡ 1) × (m .layout .coord ≡ 1) × (m .layout .comp ≡ 1) × (m .mask ≡ 4294967295)
   pub in-bits : m .layout .listed ≡ false → (m .limit ≡ 8 * length s) × (length s ≤ mostBytes)
 
 -- a table of three sides, each of which is there in a patch
@@ -65,7 +65,7 @@ recordAt m f p = cond (leb (p + sizeOf m f) (m .limit)) (Record f (record { 0 = 
 -- what stands at a place, where no flag above most may come
 unfoldable pub foundAt : Records → List ℕ → List Float → ℕ → ℕ → Found
 foundAt m s vs most p =
-    let f : ℕ = flagIn (m .layout) s vs p in
+    let f : ℕ = flagIn (m .layout) (m .mask) s vs p in
     cond (leb f most) (recordAt m f p) End
 
 -- ---- a patch in the output
@@ -108,5 +108,6 @@ rowAt T m s vs R o start f p =
 unfoldable pub finishedOf : Table → Records → List ℕ → List Float → Ranges → Finished Float
 finishedOf T m s vs R =
     let L = m .layout in
-    let F : Format = record { first = L .flag; more = λ started x. widthsOf (L .coord) (L .comp) (L .n) (patchShape (m .own) started x) } in
-    cond (L .listed) (patchMesh T (m .own) asListed (L .n) vs) (patchMesh T (m .own) (byDecode R) (L .n) (rawReading F s))
+    let flag : Meaning = masked (m .mask) in
+    let F : Format = record { first = L .flag; more = λ started x. widthsOf (L .coord) (L .comp) (L .n) (patchShape (m .own) started (flag x)) } in
+    cond (L .listed) (patchMesh T (m .own) asListed (L .n) vs) (patchMesh T (m .own) (byDecode flag R) (L .n) (rawReading F s))

@@ -2,6 +2,7 @@
 use Prim.Native.Nat.{ℕ, _+_, _*_}
 use mathlib.Core.Bool.{cond}
 use mathlib.Core.List.{List, [], _∷_}
+use lib.Bits.{bitAnd}
 use lib.ListN.{getD}
 use lib.Ieee.{Float, nan}
 use Rattle.lists.specs.Lists.{joined}
@@ -21,15 +22,19 @@ numbersOf L s vs R = cond (L .listed) (listNumbers vs) (bitNumbers s R)
 unfoldable pub vertexIn : Layout → List ℕ → List Float → Ranges → ℕ → List Float
 vertexIn L s vs R p = cond (L .listed) (vertexAt (listNumbers vs) 1 1 (L .n) p) (vertexAt (bitNumbers s R) (L .coord) (L .comp) (L .n) p)
 
--- the flag at a place where there is one
-unfoldable pub flagIn : Layout → List ℕ → List Float → ℕ → ℕ
-flagIn L s vs = cond (L .listed) (λ (p : ℕ). flagOf (getD vs p nan)) (λ (p : ℕ). fieldAt s p (L .flag))
+-- what a flag means where only the bits of a mask count
+abbrev pub masked : ℕ → ℕ → ℕ
+masked mask x = bitAnd x mask
+
+-- what the flag at a place means, where there is one
+unfoldable pub flagIn : Layout → ℕ → List ℕ → List Float → ℕ → ℕ
+flagIn L mask s vs = cond (L .listed) (λ (p : ℕ). flagOf (getD vs p nan)) (λ (p : ℕ). masked mask (fieldAt s p (L .flag)))
 
 abbrev pub numberRead : BitRead → ℕ
 numberRead (Number x q) = x
 numberRead End = 0
 
--- the flag at any place; 0 where there is none
+-- the flag at any place as a whole number; 0 where there is none
 unfoldable pub flagAt : Layout → List ℕ → List Float → ℕ → ℕ
 flagAt L s vs p = cond (L .listed) (flagOf (getD vs p nan)) (numberRead (readAt s p (L .flag)))
 

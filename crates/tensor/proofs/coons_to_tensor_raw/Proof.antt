@@ -5,10 +5,10 @@ use mathlib.Core.Bool.{true, false}
 use mathlib.Core.List.{List}
 use native.Mathlib.Omega.{arith}
 use lib.ListN.{length}
+use Rattle.records.specs.Format.{wholeNumber}
 use Rattle.rules.specs.Patches.{sides}
 use Rattle.rules.proofs.Meshes.{patches-numbered}
 use Rattle.rules.proofs.Tables.{sides-fit}
-use Rattle.rules.proofs.RawReading.{itself}
 use Rattle.tensor.specs.Turning.{raw}
 use Rattle.tensor.specs.Outcomes.{wholeRecords, coonsToTensorRaw}
 use Rattle.tensor.specs.Inner.Standing.{patchesOf, FewPatches}
@@ -70,7 +70,7 @@ unfolding coonsToTensorRaw
 returns-4 c =
     let k = c .before .before in
     small-output raw _ _ _ _ _ (omega arith) (omega arith) (counted k .0) (n k) (32 + 4 * n k) refl
-    (patches-numbered 0 itself 8 (n k) sides (sides-fit .0) (numbers k)) (counted k .1) (c .if3 .taken)
+    (patches-numbered 0 wholeNumber 8 (n k) sides (sides-fit .0) (numbers k)) (counted k .1) (c .if3 .taken)
 
 write-patches-requires : tie.Need-write-patches-requires
 write-patches-requires c κs =

@@ -1,4 +1,5 @@
 -- `triangles::build_type4` meets its contract: each refusal in its order, then the core over the list. Assumes nothing.
+use mathlib.Core.Path.{refl}
 use native.Mathlib.Omega.{arith}
 use Rattle.meshes.proofs.Endings.{list-components, list-too-long}
 use Rattle.triangles.proofs.Ends.{there-list, list4-ended}
@@ -30,8 +31,8 @@ part-free-form-end c = search needs
 free-form-requires : tie.Need-free-form-requires
 free-form-requires c κs = let s = c .before .before .before .before .before .before .before .before in
     let e = c .before .before .before .vertices-in .ensures in
-    let h = there-list _ _ 1 (s .args .n) (c .before .before .before .before .before .if1 .left) (c .before .before .before .before .if2 .left) in
-    (rw e h, rw e (record { some-bits = omega arith; few-bits = omega arith }))
+    let h = there-list _ _ 1 _ (s .args .n) (c .before .before .before .before .before .if1 .left) (c .before .before .before .before .if2 .left) in
+    (rw e h, rw e (record { some-bits = omega arith; few-bits = omega arith; listed-whole = λ t. refl }))
 
 same-length : tie.Need-same-length
 same-length c = search needs
@@ -39,7 +40,7 @@ same-length c = search needs
 returns-3 : tie.Need-returns-3
 returns-3 c = let s = c .before .before .before .before .before .before .before .before .before .before .before in
     let e = c .before .before .before .before .before .before .vertices-in .ensures in
-    list4-ended _ _ (s .args .n) _ (c .before .before .before .before .before .before .before .before .if1 .left) (c .before .before .before .before .before .before .before .if2 .left) (s .args .last-three) (rw e at (c .before .before .free-form .ensures))
+    list4-ended _ _ (s .args .n) _ (c .before .before .before .before .before .before .before .before .if1 .left) (c .before .before .before .before .before .before .before .if2 .left) _ (s .args .last-three) (rw e at (c .before .before .free-form .ensures))
 
 pub build-type4-spec : {M : Type 1} → statement M
 build-type4-spec =

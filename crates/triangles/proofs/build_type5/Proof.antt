@@ -30,7 +30,7 @@ part-lattice-form-end c = search needs
 lattice-form-requires : tie.Need-lattice-form-requires
 lattice-form-requires c κs = let s = c .before .before .before .before .before .before .before .before in
     let e = c .before .before .before .vertices-in .ensures in
-    let h = there-list _ _ 0 (s .args .n) (c .before .before .before .before .before .if1 .left) (c .before .before .before .before .if2 .left) in
+    let h = there-list _ _ 0 _ (s .args .n) (c .before .before .before .before .before .if1 .left) (c .before .before .before .before .if2 .left) in
     rw e h
 
 same-length : tie.Need-same-length
@@ -39,7 +39,7 @@ same-length c = search needs
 returns-3 : tie.Need-returns-3
 returns-3 c = let s = c .before .before .before .before .before .before .before .before .before .before .before in
     let e = c .before .before .before .before .before .before .vertices-in .ensures in
-    list5-ended _ _ (s .args .n) _ (c .before .before .before .before .before .before .before .before .if1 .left) (c .before .before .before .before .before .before .before .if2 .left) (s .args .row) (rw e at (c .before .before .lattice-form .ensures))
+    list5-ended _ _ (s .args .n) _ (c .before .before .before .before .before .before .before .before .if1 .left) (c .before .before .before .before .before .before .before .if2 .left) _ (s .args .row) (rw e at (c .before .before .lattice-form .ensures))
 
 pub build-type5-spec : {M : Type 1} → statement M
 build-type5-spec =

@@ -2,8 +2,9 @@
 use mathlib.Core.Path.{sym, _∙_}
 use borrow.Author.Tests.{not-true, not-false}
 use Rattle.records.specs.declared.layout.FlagWidth.the-variants.{Bits}
+use Rattle.records.proofs.Layouts.{layout-widths}
 use Rattle.meshes.proofs.Endings.{unreadable, many-components, too-long}
-use Rattle.triangles.proofs.Ends.{there-bits, layout-widths, type4-ended}
+use Rattle.triangles.proofs.Ends.{true-false, there-bits, type4-ended}
 use borrow.Author.Needs.{needs}
 use Rattle.triangles.proofs.read_type4.Statement.{statement}
 use Rattle.triangles.proofs.read_type4.Tie as tie
@@ -41,8 +42,8 @@ free-form-requires : tie.Need-free-form-requires
 free-form-requires c κs = let s = c .before .before .before .before .before .before .before .before .before .before in
     let w = layout-widths (Bits (s .args .flag)) (s .args .coord) (s .args .comp) _ (sym (c .before .before .before .before .before .before .mesh-layout-is-readable .ensures) ∙ not-false _ (c .before .before .before .before .before .if1 .left)) in
     let e = c .before .before .vertices-in .ensures in
-    let h = there-bits _ _ (s .args .coord) (s .args .comp) (s .args .flag) (s .args .n) (w .of-coord .some-bits) (w .of-coord .few-bits) (w .of-comp .some-bits) (w .of-comp .few-bits) (c .before .before .before .before .if2 .left) (c .before .before .before .if3 .left) in
-    (rw e h, rw e (record { some-bits = w .of-first .some-bits; few-bits = w .of-first .few-bits }))
+    let h = there-bits _ _ (s .args .coord) (s .args .comp) (s .args .flag) (s .args .mask) (s .args .n) (w .of-coord .some-bits) (w .of-coord .few-bits) (w .of-comp .some-bits) (w .of-comp .few-bits) (c .before .before .before .before .if2 .left) (c .before .before .before .if3 .left) in
+    (rw e h, rw e (record { some-bits = w .of-first .some-bits; few-bits = w .of-first .few-bits; listed-whole = λ t. true-false t }))
 
 same-length : tie.Need-same-length
 same-length c = search needs
@@ -50,7 +51,7 @@ same-length c = search needs
 returns-4 : tie.Need-returns-4
 returns-4 c = let s = c .before .before .before .before .before .before .before .before .before .before .before .before .before in
     let e = c .before .before .before .before .before .vertices-in .ensures in
-    type4-ended _ _ (s .args .coord) (s .args .comp) _ (s .args .n) (c .before .before .before .before .before .before .before .if2 .left) (c .before .before .before .before .before .before .if3 .left) (s .args .flag) (sym (c .before .before .before .before .before .before .before .before .before .mesh-layout-is-readable .ensures) ∙ not-false _ (c .before .before .before .before .before .before .before .before .if1 .left)) (rw e at (c .before .before .free-form .ensures))
+    type4-ended _ _ (s .args .coord) (s .args .comp) _ (s .args .n) (c .before .before .before .before .before .before .before .if2 .left) (c .before .before .before .before .before .before .if3 .left) (s .args .flag) (s .args .mask) (sym (c .before .before .before .before .before .before .before .before .before .mesh-layout-is-readable .ensures) ∙ not-false _ (c .before .before .before .before .before .before .before .before .if1 .left)) (rw e at (c .before .before .free-form .ensures))
 
 pub read-type4-spec : {M : Type 1} → statement M
 read-type4-spec =

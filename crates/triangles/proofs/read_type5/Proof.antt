@@ -3,8 +3,9 @@ use mathlib.Core.Path.{sym, _∙_}
 use native.Mathlib.Omega.{arith}
 use borrow.Author.Tests.{not-true, not-false}
 use Rattle.records.specs.declared.layout.FlagWidth.the-variants.{Absent}
+use Rattle.records.proofs.Layouts.{layout-widths}
 use Rattle.meshes.proofs.Endings.{unreadable, many-components, too-long}
-use Rattle.triangles.proofs.Ends.{there-bits, layout-widths, type5-ended}
+use Rattle.triangles.proofs.Ends.{there-bits, type5-ended}
 use borrow.Author.Needs.{needs}
 use Rattle.triangles.proofs.read_type5.Statement.{statement}
 use Rattle.triangles.proofs.read_type5.Tie as tie
@@ -42,7 +43,7 @@ lattice-form-requires : tie.Need-lattice-form-requires
 lattice-form-requires c κs = let s = c .before .before .before .before .before .before .before .before .before .before in
     let w = layout-widths Absent (s .args .coord) (s .args .comp) _ (sym (c .before .before .before .before .before .before .mesh-layout-is-readable .ensures) ∙ not-false _ (c .before .before .before .before .before .if1 .left)) in
     let e = c .before .before .vertices-in .ensures in
-    let h = there-bits _ _ (s .args .coord) (s .args .comp) (0) (s .args .n) (w .of-coord .some-bits) (w .of-coord .few-bits) (w .of-comp .some-bits) (w .of-comp .few-bits) (c .before .before .before .before .if2 .left) (c .before .before .before .if3 .left) in
+    let h = there-bits _ _ (s .args .coord) (s .args .comp) 0 _ (s .args .n) (w .of-coord .some-bits) (w .of-coord .few-bits) (w .of-comp .some-bits) (w .of-comp .few-bits) (c .before .before .before .before .if2 .left) (c .before .before .before .if3 .left) in
     rw e h
 
 same-length : tie.Need-same-length
@@ -51,7 +52,7 @@ same-length c = search needs
 returns-4 : tie.Need-returns-4
 returns-4 c = let s = c .before .before .before .before .before .before .before .before .before .before .before .before .before in
     let e = c .before .before .before .before .before .vertices-in .ensures in
-    type5-ended _ _ (s .args .coord) (s .args .comp) _ (s .args .n) (c .before .before .before .before .before .before .before .if2 .left) (c .before .before .before .before .before .before .if3 .left) (s .args .row) (sym (c .before .before .before .before .before .before .before .before .before .mesh-layout-is-readable .ensures) ∙ not-false _ (c .before .before .before .before .before .before .before .before .if1 .left)) (rw e at (c .before .before .lattice-form .ensures))
+    type5-ended _ _ (s .args .coord) (s .args .comp) _ (s .args .n) (c .before .before .before .before .before .before .before .if2 .left) (c .before .before .before .before .before .before .if3 .left) _ (s .args .row) (sym (c .before .before .before .before .before .before .before .before .before .mesh-layout-is-readable .ensures) ∙ not-false _ (c .before .before .before .before .before .before .before .before .if1 .left)) (rw e at (c .before .before .lattice-form .ensures))
 
 pub read-type5-spec : {M : Type 1} → statement M
 read-type5-spec =

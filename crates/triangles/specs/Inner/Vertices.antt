@@ -17,10 +17,10 @@ use Rattle.triangles.specs.declared.vertices.Vertices.{Vertices}
 -- ---- the vertices
 
 -- as many vertices as so many places hold
-abbrev pub verticesIn : Layout → ℕ → Vertices
-verticesIn L limit =
+abbrev pub verticesIn : Layout → ℕ → ℕ → Vertices
+verticesIn L mask limit =
     let size : ℕ = L .flag + (2 * L .coord + L .n * L .comp) in
-    record { layout = L; size = size; total = limit / size }
+    record { layout = L; mask = mask; size = size; total = limit / size }
 
 -- the vertices stand whole in bits, or in a list
 pub record InBits (v : Vertices) (s : List ℕ) : Type 0 where
@@ -43,14 +43,15 @@ pub record VerticesThere (v : Vertices) (s : List ℕ) (vs : List Float) : Type 
   pub in-bits : v .layout .listed ≡ false → InBits v s
   pub in-list : v .layout .listed ≡ true → InList v vs
 
--- each vertex begins with a flag
+-- each vertex begins with a flag; that of a list is the whole number
 pub record Flagged (v : Vertices) : Type 0 where
   pub some-bits : 1 ≤ v .layout .flag
   pub few-bits : v .layout .flag ≤ 32
+  pub listed-whole : v .layout .listed ≡ true → v .mask ≡ 4294967295
 
 -- the flag and the row of vertex i
 unfoldable pub flagOfVertex : Vertices → List ℕ → List Float → ℕ → ℕ
-flagOfVertex v s vs i = flagIn (v .layout) s vs (i * v .size)
+flagOfVertex v s vs i = flagIn (v .layout) (v .mask) s vs (i * v .size)
 
 unfoldable pub rowOfVertex : Vertices → List ℕ → List Float → Ranges → ℕ → List Float
 rowOfVertex v s vs R i =

@@ -17,11 +17,11 @@ add-size c = omega (arith, mul-le-mul (c .before .before .pre .4) (c .before .be
 add-size-2 : tie.Need-add-size-2
 add-size-2 c = omega (arith, mul-le-mul (c .before .before .before .pre .4) (c .before .before .before .pre .2))
 
-div-t4 : tie.Need-div-t4
-div-t4 c = search needs
+div-total : tie.Need-div-total
+div-total c = search needs
 
 returns : tie.Need-returns
 returns c = search needs
 
 pub vertices-in-spec : {M : Type 1} → statement M
-vertices-in-spec = tie.close (tie.spec mul-size mul-size-2 add-size add-size-2 div-t4 returns)
+vertices-in-spec = tie.close (tie.spec mul-size mul-size-2 add-size add-size-2 div-total returns)
