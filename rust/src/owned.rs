@@ -19,6 +19,8 @@ fn whole<T: Copy + Default>(
 
 /// Reads a mesh from the bytes of its stream, as the original Rust does.
 ///
+/// A flag is the whole number: in Type 4 one of 3 or more drops its vertex, in Types 6 and 7 one above 3 ends the mesh.
+///
 /// `decode` is the shading's Decode array: min and max of x, of y and of each component. Missing entries of a component are 0 and 1. What stands in
 /// the stream after the last complete triangle or patch gives nothing.
 ///
@@ -87,7 +89,8 @@ pub fn parse<K: MeshType>(
 
 /// Reads a mesh from the bytes of its stream, as ISO 32000-1 has it, but for what the library's `docs/DIFFERENCES.md` lists.
 ///
-/// It is proved that this is the mesh that [`parse`] reads, with the same refusals.
+/// A flag is its two low bits, whatever stands in the others. With flags below 4 it is proved that this is the mesh that [`parse`] reads. The refusals are
+/// always the same.
 ///
 /// # Errors
 ///
@@ -96,17 +99,15 @@ pub fn parse<K: MeshType>(
 /// # Examples
 ///
 /// ```
-/// use station::{parse, published, Layout, Refusal, Type5};
+/// use station::{parse, published, Layout, Refusal, Type4};
 ///
 /// # fn main() -> Result<(), Refusal> {
-/// // a lattice of two rows of two vertices, x, y and grey in a byte each
-/// let data = [0, 0, 10, 9, 0, 20, 0, 9, 30, 9, 9, 40];
-/// let layout = Layout { coordinate: 8, component: 8, flag: 0, components: 1 };
-/// let decode = [0.0, 255.0, 0.0, 255.0, 0.0, 1.0];
-/// let kind = Type5 { row_length: 2 };
-/// let triangles = published(kind, &data, layout, &decode)?;
-/// assert_eq!(triangles.len(), 2);
-/// assert_eq!(triangles, parse(kind, &data, layout, &decode)?);
+/// // flag, x and y of each vertex, in a byte each; 5 has the low bits of flag 1, which joins the fourth to the last two
+/// let data = [0, 0, 0, 0, 100, 0, 0, 0, 100, 5, 100, 100];
+/// let layout = Layout { coordinate: 8, component: 8, flag: 8, components: 0 };
+/// let decode = [0.0, 255.0, 0.0, 255.0];
+/// assert_eq!(published(Type4, &data, layout, &decode)?.len(), 2);
+/// assert_eq!(parse(Type4, &data, layout, &decode)?.len(), 1);
 /// # Ok(())
 /// # }
 /// ```
@@ -150,7 +151,7 @@ pub fn build<K: MeshType>(kind: K, values: &[f64], components: usize) -> Result<
     Ok(kind.mesh(numbers, components))
 }
 
-/// Builds a mesh from a list of numbers, flags among them, by the flag rules of ISO 32000-1.
+/// Builds a mesh from a list of numbers, flags among them, by the flag rules of ISO 32000-1. In a list a flag is the whole number.
 ///
 /// It and [`build`] differ in Type 4 where a flag 2 comes right after a flag 2, and in Type 7 after flags 1 to 3.
 ///

@@ -105,7 +105,7 @@ impl Builders {
     }
 }
 
-/// Reads a mesh from bytes, as the original Rust does. Answers how many triangles or patches.
+/// Reads a mesh from bytes, as the original Rust does. A flag is the whole number. Answers how many triangles or patches.
 ///
 /// `decode` is the shading's Decode array: min and max of x, of y and of each component. Missing entries of a component are 0 and 1.
 ///
@@ -128,7 +128,8 @@ pub fn parse(
     readers.call(kind, data, layout, decode, out)
 }
 
-/// Reads a mesh from bytes, as ISO 32000-1 has it, but for what the library's `docs/DIFFERENCES.md` lists. Answers how many triangles or patches.
+/// Reads a mesh from bytes, as ISO 32000-1 has it, but for what the library's `docs/DIFFERENCES.md` lists. A flag is its two low bits. Answers how many
+/// triangles or patches.
 ///
 /// # Errors
 ///
@@ -169,7 +170,8 @@ pub fn build(
     builders.call(kind, values, components, out)
 }
 
-/// Builds a mesh from a list of numbers, flags among them, by the flag rules of ISO 32000-1. Answers how many triangles or patches.
+/// Builds a mesh from a list of numbers, flags among them, by the flag rules of ISO 32000-1. In a list a flag is the whole number. Answers how many
+/// triangles or patches.
 ///
 /// # Errors
 ///

@@ -1,6 +1,6 @@
 //! A case: what a mesh function is asked, with the room that is lent to it.
 
-use crate::record::{packed, raw_reading};
+use crate::record::{low_flag_reading, packed};
 use crate::reshape::{without_a_component, without_a_record};
 use crate::shrink::{smaller_layouts, smaller_lists, Shrinks};
 use rows::{Call, Source};
@@ -75,6 +75,17 @@ impl Case {
         match self.input {
             Input::Bytes(_) => Origin::Bytes,
             Input::List(_) => Origin::List,
+        }
+    }
+
+    /// The same call with another input.
+    pub fn with_input(&self, input: Input) -> Case {
+        Case {
+            kind: self.kind,
+            layout: self.layout,
+            decode: self.decode.clone(),
+            input,
+            room: self.room,
         }
     }
 
@@ -225,11 +236,8 @@ impl Case {
     fn reshaped(&self) -> Vec<Case> {
         let (kind, l) = (plain(self.kind), self.layout);
         let with = |layout: Layout, input: Input| Case {
-            kind: self.kind,
             layout,
-            decode: self.decode.clone(),
-            input,
-            room: self.room,
+            ..self.with_input(input)
         };
         let fewer = Layout {
             components: l.components.saturating_sub(1),
@@ -248,7 +256,7 @@ impl Case {
                     .collect()
             }
             Input::Bytes(data) if data.len() <= MOST_RESHAPED => {
-                let numbers = raw_reading(kind, l, data);
+                let numbers = low_flag_reading(kind, l, data);
                 repacked(kind, l, &numbers)
                     .into_iter()
                     .filter(|(_, bytes)| bytes.len() <= data.len() && bytes != data)
@@ -281,17 +289,11 @@ fn repacked(kind: Kind, l: Layout, numbers: &[u32]) -> Vec<(Layout, Vec<u8>)> {
 
 impl Shrinks for Case {
     fn smaller(&self) -> Box<dyn Iterator<Item = Self> + '_> {
-        let with = |input: Input| Case {
-            kind: self.kind,
-            layout: self.layout,
-            decode: self.decode.clone(),
-            input,
-            room: self.room,
+        let inputs: Box<dyn Iterator<Item = Input>> = match &self.input {
+            Input::Bytes(data) => Box::new(smaller_lists(data).map(Input::Bytes)),
+            Input::List(list) => Box::new(smaller_lists(list).map(Input::List)),
         };
-        let inputs: Box<dyn Iterator<Item = Self>> = match &self.input {
-            Input::Bytes(data) => Box::new(smaller_lists(data).map(move |d| with(Input::Bytes(d)))),
-            Input::List(list) => Box::new(smaller_lists(list).map(move |l| with(Input::List(l)))),
-        };
+        let inputs = inputs.map(|input| self.with_input(input));
         let layouts = smaller_layouts(self.layout).map(|layout| Case {
             layout,
             ..self.clone()

@@ -1,10 +1,12 @@
-//! Checks the answers and the lent outputs of a mesh function against the original and document 01's table.
+//! Checks the answers and the lent outputs of a mesh function against the original and document 01's table. Where a published reader is asked, the
+//! original reads the same bytes with all but the two low bits of each flag cleared.
 //!
 //! The original is run for every case but those that the table refuses with COMPONENTS or LENGTH: it would read them, and it multiplies and
 //! allocates by the count of components. Of those only the refusal and the unchanged output are checked.
 
 use crate::asking::Whole;
 use crate::case::{plain, Case, Input, Origin};
+use crate::cleared::cleared;
 use crate::lent::{first_other, Lent, Place};
 use crate::library::{Answer, Library, Reading};
 use crate::record::{is_patched, mesh_flags, raw_reading};
@@ -17,6 +19,8 @@ pub struct Expected {
     /// The count of triangles or patches, or the refusal that comes before ROOM.
     pub count: Result<usize, Refusal>,
     pub is_by_original: bool,
+    /// Whether the original was given other bytes, because a flag is above 3.
+    pub is_cleared: bool,
     /// The original's numbers; a refused call has none.
     rows: Vec<f64>,
     /// The flag of each triangle of a Type 4 list, or of each patch; others need none.
@@ -24,7 +28,31 @@ pub struct Expected {
 }
 
 impl Expected {
-    pub fn of(case: &Case) -> Self {
+    pub fn of(case: &Case, reading: Reading) -> Self {
+        let published = match reading {
+            Reading::Ported => None,
+            Reading::Published => Expected::published(case),
+        };
+        published.unwrap_or_else(|| Expected::ported(case))
+    }
+
+    /// What the published reading should give, where bytes have a flag above 3. Everywhere else that is what the ported one should.
+    pub fn published(case: &Case) -> Option<Self> {
+        let Input::Bytes(data) = &case.input else {
+            return None;
+        };
+        if case.refused_at_once().is_some() {
+            return None;
+        }
+        let low = cleared(plain(case.kind), case.layout, data);
+        (low != *data).then(|| Expected {
+            is_cleared: true,
+            ..Expected::ported(&case.with_input(Input::Bytes(low)))
+        })
+    }
+
+    /// What the ported reading should give.
+    pub fn ported(case: &Case) -> Self {
         if let Some(refusal) = case.refused_at_once() {
             let is_by_original = refusal == Refusal::Layout;
             assert!(
@@ -34,6 +62,7 @@ impl Expected {
             return Expected {
                 count: Err(refusal),
                 is_by_original,
+                is_cleared: false,
                 rows: Vec::new(),
                 flags: None,
             };
@@ -43,6 +72,7 @@ impl Expected {
         Expected {
             count: Ok(count),
             is_by_original: true,
+            is_cleared: false,
             flags: flags(case),
             rows,
         }

@@ -1,11 +1,11 @@
-//! Directed cases: every width, every count of components, every Decode entry, every odd number at every place, the limits of the input,
-//! and each reason for a writer to refuse.
+//! Directed cases: every width, every count of components, every Decode entry, every odd number at every place, flags above 3 of every width,
+//! the limits of the input, and each reason for a writer to refuse.
 
 use crate::case::{Case, Input, Origin, Room, MOST_BYTES, MOST_NUMBERS};
 use crate::draw;
 use crate::job::Job;
 use crate::raw::{RawCase, Task};
-use crate::record::{is_flagged, is_patched, size};
+use crate::record::{is_flagged, is_patched, packed, records, scattered, size};
 use crate::report::{Bench, KINDS};
 use generator::Generator;
 use station::{Kind, Layout, MeshKind};
@@ -19,6 +19,11 @@ pub fn jobs() -> Vec<Job> {
         jobs.push(Box::new(move |bench| longest_inputs(kind, bench)));
         for coordinate in 0..=33 {
             jobs.push(Box::new(move |bench| widths(kind, coordinate, bench)));
+        }
+        for flag in 3..=32 {
+            if is_flagged(kind) {
+                jobs.push(Box::new(move |bench| marked_flags(kind, flag, bench)));
+            }
         }
         jobs.push(Box::new(move |bench| component_counts(kind, bench)));
         jobs.push(Box::new(move |bench| decode_entries(kind, bench)));
@@ -55,13 +60,7 @@ fn list(kind: Kind, components: usize) -> Vec<u32> {
         Kind::Type4 | Kind::Type5 => &[0, 0, 0, 1, 2, 2],
         Kind::Type6 | Kind::Type7 => &[0, 2, 3],
     };
-    let mut numbers = Vec::new();
-    for &flag in flags {
-        let end = numbers.len() + size(kind, components, flag);
-        numbers.extend(is_flagged(kind).then_some(flag));
-        numbers.extend((numbers.len()..end).map(|i| i as u32 & 0xff));
-    }
-    numbers
+    records(kind, components, flags, |place| place as u32 & 0xff)
 }
 
 fn of_bytes(kind: Kind, layout: Layout, decode: Vec<f64>, data: Vec<u8>) -> Case {
@@ -102,6 +101,52 @@ fn widths(kind: Kind, coordinate: usize, bench: &mut Bench<'_>) {
             case.decode = draw::decode(layout, &mut random);
             case.input = Input::Bytes(draw::bytes(kind, layout, &mut random));
             bench.mesh(&case);
+        }
+    }
+}
+
+/// The low bits of the marked flags: eight triangles or patches. The two vertices after a Type 4 flag 0 have other flags, and a 3 drops its vertex.
+fn low_flags(kind: Kind) -> &'static [u32] {
+    match kind {
+        Kind::Type4 => &[0, 3, 1, 1, 2, 2, 3, 1, 0, 2, 0, 2, 1],
+        _ => &[0, 1, 2, 3, 0, 3, 2, 1],
+    }
+}
+
+/// Streams whose flags have marks above their two low bits, by turns all ones, the lowest, the highest and every other bit; one flag in five has none.
+fn marked_streams(kind: Kind, layout: Layout) -> impl Iterator<Item = Vec<u8>> {
+    let marks = [u32::MAX, 1 << 2, 1 << (layout.flag - 1), 0x5555_5555, 0];
+    (0..marks.len()).map(move |start| {
+        let marked = |(i, &low): (usize, &u32)| marks[(start + i) % marks.len()] & !3 | low;
+        let flags: Vec<u32> = low_flags(kind).iter().enumerate().map(marked).collect();
+        let numbers = records(kind, layout.components, &flags, scattered);
+        packed(kind, layout, &numbers)
+    })
+}
+
+/// Flags of one width with marks, for whole bytes and between them; those of the first layout are also cut at every byte.
+fn marked_flags(kind: Kind, flag: usize, bench: &mut Bench<'_>) {
+    for (coordinate, component, components) in [(5, 3, 0), (8, 8, 1), (11, 7, 3), (32, 16, 4)] {
+        let layout = Layout {
+            coordinate,
+            component,
+            flag,
+            components,
+        };
+        let decode = vec![-1.0, 1.0, 0.1, 100.0, 0.25, 0.75];
+        for data in marked_streams(kind, layout) {
+            let cuts = if components == 0 { data.len() } else { 0 };
+            for cut in 0..cuts {
+                let kept = data[..cut].to_vec();
+                bench.mesh(&of_bytes(kind, layout, decode.clone(), kept));
+            }
+            bench.mesh(&of_bytes(kind, layout, decode.clone(), data.clone()));
+            bench.raw(&RawCase {
+                kind,
+                layout,
+                task: Task::Read(data),
+                room: Room::EXACT,
+            });
         }
     }
 }
@@ -336,6 +381,28 @@ fn thin_writers(kind: Kind, bench: &mut Bench<'_>) {
                     task: Task::Write(list),
                     room: Room::Beyond(1),
                 });
+            }
+        }
+    }
+}
+
+#[cfg(test)]
+mod tests {
+    use super::*;
+    use crate::checks::Expected;
+
+    #[test]
+    fn marked_flags_make_a_long_mesh_in_the_published_reading_alone() {
+        for kind in KINDS.into_iter().filter(|&kind| is_flagged(kind)) {
+            for flag in 3..=32 {
+                let layout = Layout { flag, ..wide(1) };
+                for data in marked_streams(kind, layout) {
+                    let case = of_bytes(kind, layout, vec![0.0; 4], data);
+                    let published = Expected::published(&case).expect("flags above 3");
+                    assert_eq!(published.count, Ok(8), "{case}");
+                    let ported = Expected::ported(&case);
+                    assert!(ported.count.is_ok_and(|count| count < 8), "{case}");
+                }
             }
         }
     }

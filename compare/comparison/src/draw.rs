@@ -350,15 +350,20 @@ fn spoil_layout(l: &mut Layout, origin: Origin, random: &mut Generator) {
     }
 }
 
+/// A stream. In one of six all flags have any bits above their two low ones.
 pub fn bytes(kind: Kind, l: Layout, random: &mut Generator) -> Vec<u8> {
     let mut writer = BitWriter::default();
     let mask = flag_mask(kind, l);
+    let is_marked = random.once_in(6);
     mesh(
         kind,
         l.components,
         mask,
         random,
         |item, random| match item {
+            Item::Flag(flag) if is_marked => {
+                writer.put(random.bits() & !3 | u64::from(flag & 3), l.flag);
+            }
             Item::Flag(flag) => writer.put(flag.into(), l.flag),
             Item::Coordinate => writer.put(raw_number(random), l.coordinate),
             Item::Component => writer.put(raw_number(random), l.component),

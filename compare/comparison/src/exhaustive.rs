@@ -3,15 +3,16 @@
 use crate::case::{Case, Input, Room};
 use crate::job::Job;
 use crate::raw::{RawCase, Task};
-use crate::record::{packed, shape, size};
+use crate::record::{packed, record_bits, records, size};
 use crate::report::{Bench, KINDS};
 use generator::Generator;
 use station::{Kind, Layout, MeshKind};
 
 /// Narrow layouts, so that several records fit into few bytes: coordinate, component, flag, components.
-const NARROW: [(usize, usize, usize, usize); 8] = [
+const NARROW: [(usize, usize, usize, usize); 9] = [
     (1, 1, 1, 0),
     (1, 1, 2, 0),
+    (1, 1, 3, 0),
     (2, 1, 3, 0),
     (4, 1, 2, 0),
     (1, 1, 1, 1),
@@ -124,10 +125,7 @@ fn streams(kind: Kind, layout: Layout, bench: &mut Bench<'_>) {
     for byte in 0..=u8::MAX {
         run(vec![byte]);
     }
-    let (coordinates, colours) = shape(kind, 0);
-    let bits = layout.flag
-        + coordinates * layout.coordinate
-        + colours * layout.components * layout.component;
+    let bits = record_bits(kind, layout, 0);
     for two in 0..=u16::MAX {
         run(two.to_be_bytes().to_vec());
         if matches!(kind, Kind::Type6 | Kind::Type7) {
@@ -202,12 +200,7 @@ fn packed_flags(kind: Kind, components: usize, bench: &mut Bench<'_>) {
     };
     let longest = if kind == Kind::Type4 { 6 } else { 4 };
     sequences(&[0, 1, 2, 3, 4, 5], longest, |flags: &[u32]| {
-        let mut numbers = Vec::new();
-        for &flag in flags {
-            let after = numbers.len() + size(kind, components, flag);
-            numbers.push(flag);
-            numbers.extend((numbers.len()..after).map(|i| (5 * i % 8) as u32));
-        }
+        let numbers = records(kind, components, flags, |place| (5 * place % 8) as u32);
         let data = packed(kind, layout, &numbers);
         if flags.len() < longest {
             for cut in 0..data.len() {

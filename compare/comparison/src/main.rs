@@ -9,6 +9,7 @@
 mod asking;
 mod case;
 mod checks;
+mod cleared;
 mod directed;
 mod draw;
 mod exhaustive;

@@ -8,7 +8,7 @@ use crate::case::{
 use crate::checks::Fault;
 use crate::lent::{first_other, Lent, Place};
 use crate::library::Library;
-use crate::record::{breaks_a_rule, is_patched, packed, raw_reading, vertex_bits};
+use crate::record::{breaks_a_rule, is_patched, packed, raw_reading, record_bits};
 use crate::shrink::{smaller_layouts, smaller_lists, Shrinks};
 use station::{Kind, Layout, Refusal};
 use std::fmt;
@@ -67,7 +67,7 @@ impl RawCase {
             Task::Write(list) => {
                 if list.len() > MOST_NUMBERS {
                     Some(Refusal::Length)
-                } else if !is_patched(kind) && vertex_bits(kind, l) < 8 {
+                } else if !is_patched(kind) && record_bits(kind, l, 0) < 8 {
                     Some(Refusal::Thin)
                 } else {
                     breaks_a_rule(kind, l, list).then_some(Refusal::Record)

@@ -13,9 +13,9 @@ pub fn is_patched(kind: Kind) -> bool {
     matches!(kind, Kind::Type6 | Kind::Type7)
 }
 
-/// How many coordinates and how many colours a record has.
+/// How many coordinates and how many colours a record has. The two low bits of a flag say it; where the whole number counts, a patch has none above 3.
 pub fn shape(kind: Kind, flag: u32) -> (usize, usize) {
-    match (kind, flag) {
+    match (kind, flag % 4) {
         (Kind::Type4 | Kind::Type5, _) => (2, 1),
         (Kind::Type6, 0) => (24, 4),
         (Kind::Type6, _) => (16, 2),
@@ -44,9 +44,19 @@ fn patch_follows(flag: u32, is_first: bool) -> bool {
 
 /// The raw numbers of the complete records of bytes, as document 01 defines the raw reading.
 pub fn raw_reading(kind: Kind, l: Layout, data: &[u8]) -> Vec<u32> {
+    reading(kind, l, data, |flag| flag)
+}
+
+/// The same where the two low bits of a flag count. The flags are whole all the same.
+pub fn low_flag_reading(kind: Kind, l: Layout, data: &[u8]) -> Vec<u32> {
+    reading(kind, l, data, |flag| flag % 4)
+}
+
+/// The raw numbers of complete records, given what counts of a flag.
+fn reading(kind: Kind, l: Layout, data: &[u8], counted: fn(u32) -> u32) -> Vec<u32> {
     let mut reader = BitReader::new(data);
     let mut numbers = Vec::new();
-    while append_record(kind, l, &mut reader, &mut numbers).is_some() {}
+    while append_record(kind, l, counted, &mut reader, &mut numbers).is_some() {}
     numbers
 }
 
@@ -54,6 +64,7 @@ pub fn raw_reading(kind: Kind, l: Layout, data: &[u8]) -> Vec<u32> {
 fn append_record(
     kind: Kind,
     l: Layout,
+    counted: fn(u32) -> u32,
     reader: &mut BitReader<'_>,
     numbers: &mut Vec<u32>,
 ) -> Option<()> {
@@ -61,7 +72,7 @@ fn append_record(
     let mut flag = 0;
     if is_flagged(kind) {
         flag = reader.read(l.flag)?;
-        if is_patched(kind) && !patch_follows(flag, start == 0) {
+        if is_patched(kind) && !patch_follows(counted(flag), start == 0) {
             return None;
         }
         numbers.push(flag);
@@ -131,10 +142,26 @@ pub fn breaks_a_rule(kind: Kind, l: Layout, list: &[u32]) -> bool {
     false
 }
 
-/// The bits of a vertex of Types 4 and 5.
-pub fn vertex_bits(kind: Kind, l: Layout) -> usize {
-    let flag = if is_flagged(kind) { l.flag } else { 0 };
-    flag + widths(kind, l, 0).sum::<usize>()
+/// The bits of a record, its flag included.
+pub fn record_bits(kind: Kind, l: Layout, flag: u32) -> usize {
+    let before = if is_flagged(kind) { l.flag } else { 0 };
+    before + widths(kind, l, flag).sum::<usize>()
+}
+
+/// A number that differs in its low and its high bits from those of the places beside it.
+pub fn scattered(place: usize) -> u32 {
+    (place as u32).wrapping_mul(0x9e37_79b9)
+}
+
+/// Records with these flags, which Type 5 leaves out. The other numbers are made of their places in the list.
+pub fn records(kind: Kind, components: usize, flags: &[u32], number: fn(usize) -> u32) -> Vec<u32> {
+    let mut list = Vec::new();
+    for &flag in flags {
+        let end = list.len() + size(kind, components, flag);
+        list.extend(is_flagged(kind).then_some(flag));
+        list.extend((list.len()..end).map(number));
+    }
+    list
 }
 
 /// The list packed by its widths, the last byte filled with zeros.

@@ -132,7 +132,7 @@ impl Drawn {
     fn fault(&self, library: &dyn Library) -> Option<Fault> {
         match self {
             Drawn::Mesh(reading, case) => {
-                let expected = Expected::of(case);
+                let expected = Expected::of(case, *reading);
                 check(case, *reading, &expected, library, &mut Lent::new()).err()
             }
             Drawn::Raw(case) => case.check(library, &mut RawLent::new()).err(),

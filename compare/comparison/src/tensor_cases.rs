@@ -6,7 +6,7 @@ use crate::directed::ROOMS;
 use crate::draw;
 use crate::exhaustive::sequences;
 use crate::job::Job;
-use crate::record::size;
+use crate::record::{records, scattered, size};
 use crate::report::Bench;
 use crate::tensor::{Task, TensorCase};
 use station::Kind;
@@ -71,13 +71,7 @@ fn rows(components: usize, values: Vec<f64>, room: Room) -> TensorCase {
 
 /// Records with these flags, and numbers that differ by their place.
 fn list(components: usize, flags: &[u32]) -> Vec<u32> {
-    let mut numbers = Vec::new();
-    for &flag in flags {
-        let end = numbers.len() + size(Kind::Type6, components, flag);
-        numbers.push(flag);
-        numbers.extend((numbers.len()..end).map(|i| (i as u32).wrapping_mul(0x9e37_79b9)));
-    }
-    numbers
+    records(Kind::Type6, components, flags, scattered)
 }
 
 /// So many numbers that differ by their place, some of them NaNs with a payload.

@@ -103,7 +103,7 @@ fn fault_of(case: &Case, reading: Reading, library: &dyn Library) -> Option<Faul
     check(
         case,
         reading,
-        &Expected::of(case),
+        &Expected::of(case, reading),
         library,
         &mut Lent::new(),
     )
@@ -317,8 +317,8 @@ fn a_computed_nan_that_is_not_written_is_found() {
 }
 
 #[test]
-fn a_published_reading_that_is_the_ported_one_is_found_and_shrunk() {
-    let ported = Wrong::mesh(|_, case, out| Proved.mesh(Reading::Ported, case, out));
+fn a_published_list_that_is_the_ported_one_is_found_and_shrunk() {
+    let ported = one_reading(Reading::Ported);
     let published = |kind| found(kind, Origin::List, Reading::Published, &ported);
     let (case, fault) = published(Kind::Type4);
     assert_eq!(length(&case), 15, "{case}{fault}");
@@ -329,6 +329,31 @@ fn a_published_reading_that_is_the_ported_one_is_found_and_shrunk() {
         for _ in 0..500 {
             let case = draw::case(kind, Origin::List, &mut random);
             assert!(fault_of(&case, Reading::Published, &ported).is_none());
+        }
+    }
+}
+
+/// A library whose two readings are one.
+fn one_reading(reading: Reading) -> Wrong {
+    Wrong::mesh(move |_, case, out| Proved.mesh(reading, case, out))
+}
+
+#[test]
+fn flags_above_3_that_count_otherwise_are_found_and_shrunk() {
+    for (reading, wrong) in [
+        (Reading::Published, one_reading(Reading::Ported)),
+        (Reading::Ported, one_reading(Reading::Published)),
+    ] {
+        // the smallest mesh with flags of three bits and other numbers of one
+        for (kind, bytes) in [(Kind::Type4, 2), (Kind::Type6, 4), (Kind::Type7, 5)] {
+            let (case, fault) = found(kind, Origin::Bytes, reading, &wrong);
+            assert_eq!(length(&case), bytes, "{case}{fault}");
+            assert_eq!(case.layout.flag, 3, "{case}{fault}");
+        }
+        let mut random = Generator::new(11);
+        for _ in 0..500 {
+            let case = draw::case(Kind::Type5, Origin::Bytes, &mut random);
+            assert!(fault_of(&case, reading, &wrong).is_none());
         }
     }
 }
@@ -654,6 +679,23 @@ fn the_cases_to_be_turned_meet_every_count_and_refusal() {
 }
 
 #[test]
+fn the_cases_drawn_meet_flags_above_3_of_every_width() {
+    let mut random = Generator::new(12);
+    for kind in [Kind::Type4, Kind::Type6, Kind::Type7] {
+        let mut widths = BTreeSet::new();
+        for _ in 0..20_000 {
+            let case = draw::case(kind, Origin::Bytes, &mut random);
+            let published = Expected::published(&case);
+            // more than the ported reading has, so the flags count for something
+            if published.is_some_and(|p| p.count.ok() > Expected::ported(&case).count.ok()) {
+                widths.insert(case.layout.flag);
+            }
+        }
+        assert!(widths.into_iter().eq(3..=32), "{kind:?}");
+    }
+}
+
+#[test]
 fn the_cases_drawn_meet_every_width_count_and_refusal() {
     let mut random = Generator::new(6);
     for kind in KINDS {
@@ -665,7 +707,7 @@ fn the_cases_drawn_meet_every_width_count_and_refusal() {
             for _ in 0..40_000 {
                 let case = draw::case(kind, origin, &mut random);
                 let l = case.layout;
-                let expected = Expected::of(&case);
+                let expected = Expected::ported(&case);
                 refusals.extend(expected.count.err().map(Refusal::number));
                 if expected.count.is_ok_and(|count| count > 0) {
                     rooms.insert(match case.room {
