@@ -1,12 +1,13 @@
-//! Two builds of the library beside each other: the ported readers and the raw readers of both, on the same input in one run. Each build is a
-//! shared object made of its archive.
+//! Two builds of the library beside each other: the ported, the published and the raw readers of both, on the same input in one run. Each build is
+//! a shared object made of its archive. No flag is above 3, so the ported and the published mesh are one.
 
 use crate::meshes::KINDS;
 use crate::stream;
-use crate::timing::{medians, summary};
+use crate::timing::{medians_of, summary};
 use station::{Kind, Layout};
 use std::ffi::{c_char, c_int, c_void, CString};
 use std::hint::black_box;
+use std::mem::transmute_copy;
 
 /// Widths of coordinate, component and flag: whole bytes, but for the last.
 const WIDTHS: [(usize, usize, usize); 5] =
@@ -19,6 +20,9 @@ const SIZES: [usize; 3] = [192, 1 << 10, 1 << 20];
 
 /// Short rows, so that the shortest stream has a cell.
 const ROW_LENGTH: usize = 3;
+
+/// Each reader is timed at most so often on an input, so that the whole takes well under a minute.
+const RUNS: usize = 15;
 
 /// What a call answers, as `station.h` declares it.
 #[repr(C)]
@@ -64,11 +68,22 @@ extern "C" {
 /// All names are looked up when the object is loaded.
 const RTLD_NOW: c_int = 2;
 
-/// The two readers of one type.
+/// A function for a type with flags, or for the lattice, which has none.
 #[derive(Clone, Copy)]
-enum Readers {
-    Flagged(Parse, RawRead),
-    Lattice(ParseLattice, RawReadLattice),
+enum Reader<F, L> {
+    Flagged(F),
+    Lattice(L),
+}
+
+type MeshReader = Reader<Parse, ParseLattice>;
+type RawReader = Reader<RawRead, RawReadLattice>;
+
+/// The readers of one type.
+#[derive(Clone, Copy)]
+struct Readers {
+    ported: MeshReader,
+    published: MeshReader,
+    raw: RawReader,
 }
 
 /// A loaded build, which is never unloaded.
@@ -91,54 +106,58 @@ impl Library {
         function
     }
 
-    /// The readers of a type, by the signatures that `station.h` gives them.
+    /// A reader of a type. Its two signatures must be those that `station.h` gives it.
+    unsafe fn reader<F, L>(&self, name: &str, kind: Kind) -> Reader<F, L> {
+        let function = self.function(&format!("{name}{}", number(kind)));
+        match kind {
+            Kind::Type5 => Reader::Lattice(unsafe { transmute_copy(&function) }),
+            _ => Reader::Flagged(unsafe { transmute_copy(&function) }),
+        }
+    }
+
     fn readers(&self, kind: Kind) -> Readers {
-        let number = &format!("{kind:?}")[4..];
-        let parse = self.function(&format!("mesh_parse_type{number}"));
-        let raw = self.function(&format!("mesh_raw_read_type{number}"));
         unsafe {
-            use std::mem::transmute;
-            match kind {
-                Kind::Type5 => Readers::Lattice(
-                    transmute::<*mut c_void, ParseLattice>(parse),
-                    transmute::<*mut c_void, RawReadLattice>(raw),
-                ),
-                _ => Readers::Flagged(
-                    transmute::<*mut c_void, Parse>(parse),
-                    transmute::<*mut c_void, RawRead>(raw),
-                ),
+            Readers {
+                ported: self.reader("mesh_parse_type", kind),
+                published: self.reader("mesh_published_type", kind),
+                raw: self.reader("mesh_raw_read_type", kind),
             }
         }
     }
 }
 
-impl Readers {
-    fn parse(self, data: &[u8], l: Layout, decode: &[f64], out: &mut [f64]) -> Told {
+/// The number of a type.
+fn number(kind: Kind) -> String {
+    format!("{kind:?}")[4..].to_string()
+}
+
+impl MeshReader {
+    fn read(self, data: &[u8], l: Layout, decode: &[f64], out: &mut [f64]) -> Told {
         let (d, dn, o, on) = (data.as_ptr(), data.len(), out.as_mut_ptr(), out.len());
         let (e, en) = (decode.as_ptr(), decode.len());
         let (x, c, f, n) = (l.coordinate, l.component, l.flag, l.components);
         match self {
-            Readers::Flagged(parse, _) => unsafe { parse(d, dn, x, c, f, e, en, n, o, on) },
-            Readers::Lattice(parse, _) => unsafe {
-                parse(d, dn, x, c, e, en, n, ROW_LENGTH, o, on)
-            },
-        }
-    }
-
-    fn raw_read(self, data: &[u8], l: Layout, out: &mut [u32]) -> Told {
-        let (d, dn, o, on) = (data.as_ptr(), data.len(), out.as_mut_ptr(), out.len());
-        let (x, c, f, n) = (l.coordinate, l.component, l.flag, l.components);
-        match self {
-            Readers::Flagged(_, raw) => unsafe { raw(d, dn, x, c, f, n, o, on) },
-            Readers::Lattice(_, raw) => unsafe { raw(d, dn, x, c, n, o, on) },
+            Reader::Flagged(parse) => unsafe { parse(d, dn, x, c, f, e, en, n, o, on) },
+            Reader::Lattice(parse) => unsafe { parse(d, dn, x, c, e, en, n, ROW_LENGTH, o, on) },
         }
     }
 }
 
-/// Times a call of both builds with exactly the room that it needs; answers the later one's time as a share of the earlier one's.
-fn share<T: Copy + Default + PartialEq>(
-    readers: [Readers; 2],
-    call: impl Fn(Readers, &mut [T]) -> Told,
+impl RawReader {
+    fn read(self, data: &[u8], l: Layout, out: &mut [u32]) -> Told {
+        let (d, dn, o, on) = (data.as_ptr(), data.len(), out.as_mut_ptr(), out.len());
+        let (x, c, f, n) = (l.coordinate, l.component, l.flag, l.components);
+        match self {
+            Reader::Flagged(raw) => unsafe { raw(d, dn, x, c, f, n, o, on) },
+            Reader::Lattice(raw) => unsafe { raw(d, dn, x, c, n, o, on) },
+        }
+    }
+}
+
+/// Times a reader of both builds with exactly the room that it needs; answers the later one's time as a share of the earlier one's.
+fn share<R: Copy, T: Copy + Default + PartialEq>(
+    readers: [R; 2],
+    call: impl Fn(R, &mut [T]) -> Told,
 ) -> f64 {
     let written = readers.map(|r| {
         let needed = call(r, &mut []).count as usize;
@@ -152,28 +171,51 @@ fn share<T: Copy + Default + PartialEq>(
     // each time is that of a million numbers or more: with fewer, single layouts of one and the same build differ by 5%
     let turns = 1_000_000 / out.len() + 1;
     let out = std::cell::RefCell::new(&mut out[..]);
-    let run = |r: Readers| {
+    let run = |r: R| {
         for _ in 0..turns {
             black_box(call(black_box(r), black_box(&mut out.borrow_mut())));
         }
     };
-    let [earlier, later] = medians([&mut || run(readers[0]), &mut || run(readers[1])]);
+    let [earlier, later] = medians_of(RUNS, [&mut || run(readers[0]), &mut || run(readers[1])]);
     later / earlier
 }
 
-/// Prints a line for each reader and size: the geometric mean over all layouts, and the worst of them.
+/// The share of each reader on one input.
+fn shares(readers: [Readers; 2], kind: Kind, l: Layout, size: usize) -> [f64; 3] {
+    let data = stream::bytes(kind, l, size);
+    let decode = [-100.0, 100.0, -50.0, 50.0];
+    let mesh = |of: fn(Readers) -> MeshReader| {
+        share(readers.map(of), |r, out| r.read(&data, l, &decode, out))
+    };
+    [
+        mesh(|r| r.ported),
+        mesh(|r| r.published),
+        share(readers.map(|r| r.raw), |r, out| r.read(&data, l, out)),
+    ]
+}
+
+/// The geometric mean and the worst of each reader's shares.
+fn summaries(shares: &[[f64; 3]]) -> String {
+    let columns = [0, 1, 2].map(|of| {
+        let (mean, worst) = summary(&shares.iter().map(|all| all[of]).collect::<Vec<_>>());
+        format!("   {mean:.3} {worst:.3}")
+    });
+    columns.concat()
+}
+
+/// Prints a line for each type and size: of each reader the geometric mean over all layouts, and the worst of them.
 pub fn print(files: &[String]) {
     let [earlier, later] = files else {
         panic!("benchmark libraries EARLIER.so LATER.so");
     };
     let libraries = [Library::load(earlier), Library::load(later)];
     println!("time of {later} / that of {earlier}: geometric mean, worst");
-    println!("type      bytes   ported           raw");
-    let mut all = [const { Vec::new() }; 2];
+    println!("type      bytes   ported        published     raw");
+    let mut all = Vec::new();
     for kind in KINDS {
-        let readers = [libraries[0].readers(kind), libraries[1].readers(kind)];
+        let readers = libraries.each_ref().map(|library| library.readers(kind));
         for size in SIZES {
-            let mut shares = [const { Vec::new() }; 2];
+            let first = all.len();
             for (coordinate, component, flag) in WIDTHS {
                 for components in COMPONENTS {
                     let l = Layout {
@@ -182,22 +224,12 @@ pub fn print(files: &[String]) {
                         flag,
                         components,
                     };
-                    let data = stream::bytes(kind, l, size);
-                    let decode = [-100.0, 100.0, -50.0, 50.0];
-                    shares[0].push(share(readers, |r, out| r.parse(&data, l, &decode, out)));
-                    shares[1].push(share(readers, |r, out| r.raw_read(&data, l, out)));
+                    all.push(shares(readers, kind, l, size));
                 }
             }
-            let [(ported, worst), (raw, worst_raw)] = [summary(&shares[0]), summary(&shares[1])];
-            println!(
-                "{:>4}   {size:>8}   {ported:.3} {worst:.3}      {raw:.3} {worst_raw:.3}",
-                &format!("{kind:?}")[4..],
-            );
-            for (all, some) in all.iter_mut().zip(shares) {
-                all.extend(some);
-            }
+            let line = summaries(&all[first..]);
+            println!("{:>4}   {size:>8}{line}", number(kind));
         }
     }
-    let [(ported, worst), (raw, worst_raw)] = [summary(&all[0]), summary(&all[1])];
-    println!(" all              {ported:.3} {worst:.3}      {raw:.3} {worst_raw:.3}");
+    println!(" all{:11}{}", "", summaries(&all));
 }

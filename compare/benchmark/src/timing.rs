@@ -8,13 +8,18 @@ const MOST_RUNS: usize = 25;
 
 /// The median seconds of each job, run in turn so that a slow moment of the machine hits all of them.
 pub fn medians<const N: usize>(jobs: [&mut dyn FnMut(); N]) -> [f64; N] {
+    medians_of(MOST_RUNS, jobs)
+}
+
+/// The same with at most so many runs.
+pub fn medians_of<const N: usize>(most: usize, jobs: [&mut dyn FnMut(); N]) -> [f64; N] {
     let mut seconds = [const { Vec::new() }; N];
     let mut jobs = jobs;
     for job in jobs.iter_mut() {
         job(); // warm
     }
     let begin = Instant::now();
-    for run in 0..MOST_RUNS {
+    for run in 0..most {
         if run >= LEAST_RUNS && begin.elapsed().as_secs_f64() > 1.0 {
             break;
         }
