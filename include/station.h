@@ -65,7 +65,8 @@ enum {
     MESH_FILE = 7        /* the dump program alone: not a mesh file */
 };
 
-/* ---- Meshes from bytes, as the original Rust reads them */
+/* ---- Meshes from bytes, as the original Rust reads them. A flag is the whole number: in Type 4 one of 3 or more drops its
+ * vertex, in Types 6 and 7 one above 3 ends the mesh. */
 
 /* Reads a free-form triangle mesh (Type 4). */
 mesh_answer mesh_parse_type4(const uint8_t *data, size_t data_len, size_t coord, size_t comp,
@@ -83,7 +84,9 @@ mesh_answer mesh_parse_type6(const uint8_t *data, size_t data_len, size_t coord,
 mesh_answer mesh_parse_type7(const uint8_t *data, size_t data_len, size_t coord, size_t comp,
     size_t flag, const double *decode, size_t decode_len, size_t n, double *out, size_t out_len);
 
-/* ---- Meshes from bytes, as ISO 32000-1 says, but for what docs/DIFFERENCES.md lists: the same meshes */
+/* ---- Meshes from bytes, as ISO 32000-1 says, but for what docs/DIFFERENCES.md lists. A flag is its two low bits, whatever
+ * stands in the others: 4 is read as 0, and in Type 4 a flag that comes to 3 drops its vertex. With flags below 4 the meshes
+ * are those above, and with flags of 1 or 2 bits always. */
 
 /* Reads a free-form triangle mesh (Type 4). */
 mesh_answer mesh_published_type4(const uint8_t *data, size_t data_len, size_t coord, size_t comp,
