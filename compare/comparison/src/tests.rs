@@ -683,7 +683,7 @@ fn the_cases_drawn_meet_flags_above_3_of_every_width() {
     let mut random = Generator::new(12);
     for kind in [Kind::Type4, Kind::Type6, Kind::Type7] {
         let mut widths = BTreeSet::new();
-        for _ in 0..20_000 {
+        for _ in 0..8_000 {
             let case = draw::case(kind, Origin::Bytes, &mut random);
             let published = Expected::published(&case);
             // more than the ported reading has, so the flags count for something
