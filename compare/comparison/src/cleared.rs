@@ -10,12 +10,12 @@ const LOW: usize = 2;
 /// The bytes with each flag cleared but for its two low bits, where the published reading of a readable layout has flags.
 pub fn cleared(kind: Kind, l: Layout, data: &[u8]) -> Vec<u8> {
     let mut bytes = data.to_vec();
-    if !is_flagged(kind) {
+    if !is_flagged(kind) || l.flag <= LOW {
         return bytes;
     }
     let mut place = 0;
     while place + l.flag <= 8 * bytes.len() {
-        let (end, low) = (place + l.flag, place + l.flag.saturating_sub(LOW));
+        let (end, low) = (place + l.flag, place + l.flag - LOW);
         for bit in place..low {
             bytes[bit / 8] &= !mask(bit);
         }
