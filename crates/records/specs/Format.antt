@@ -74,6 +74,7 @@ abbrev pub formatBy : Meaning → Kind → ℕ → ℕ → ℕ → ℕ → Forma
 formatBy flag kind first coord comp n =
     record { first = first; more = λ started x. widthsOf coord comp n (shapeOf kind started (flag x)) }
 
+-- a mesh type, where a flag is the whole number
 abbrev pub format : Kind → ℕ → ℕ → ℕ → ℕ → Format
 format kind first coord comp n = formatBy wholeNumber kind first coord comp n
 
