@@ -26,12 +26,12 @@ static const uint8_t data[] = {
 static const double decode[] = {0, 255, 0, 255, 0, 1, 0, 1, 0, 1};
 static const size_t n = 3;
 
-/* Lends so many places of this size, where a call that was asked with no output is refused for want of them. */
-static void *lend(uint64_t refused, size_t places, size_t size)
+/* Lends as many places, of this size, as a call needs that was asked with no output. */
+static void *lend(mesh_answer asked, size_t size)
 {
-    void *out = refused == MESH_ROOM ? malloc(places * size) : NULL;
+    void *out = asked.refused == MESH_ROOM ? malloc(asked.count * size) : NULL;
     if (out == NULL) {
-        printf("refused %" PRIu64 ", %s\n", refused, mesh_refusal_text(refused));
+        printf("refused %" PRIu64 ", %s\n", asked.refused, mesh_refusal_text(asked.refused));
         exit(1);
     }
     return out;
@@ -67,14 +67,14 @@ static bool kept(const double *coons, const double *tensor, size_t i)
 int main(void)
 {
     /* each call is asked first, with no output: every refusal but ROOM comes then, so that the second call isn't refused */
-    mesh_reading reading = mesh_parse_type6(data, sizeof data, 8, 8, 8, decode, 10, n, NULL, 0);
-    const size_t coons_len = reading.count;
-    double *coons = (double *)lend(reading.refused, coons_len, sizeof *coons);
+    mesh_answer asked = mesh_parse_type6(data, sizeof data, 8, 8, 8, decode, 10, n, NULL, 0);
+    const size_t coons_len = asked.count;
+    double *coons = (double *)lend(asked, sizeof *coons);
     mesh_parse_type6(data, sizeof data, 8, 8, 8, decode, 10, n, coons, coons_len);
 
-    mesh_answer turned = mesh_coons_to_tensor(coons, coons_len, n, NULL, 0);
-    const size_t tensor_len = turned.count;
-    double *tensor = (double *)lend(turned.refused, tensor_len, sizeof *tensor);
+    asked = mesh_coons_to_tensor(coons, coons_len, n, NULL, 0);
+    const size_t tensor_len = asked.count;
+    double *tensor = (double *)lend(asked, sizeof *tensor);
     const size_t count = mesh_coons_to_tensor(coons, coons_len, n, tensor, tensor_len).count;
     for (size_t i = 0; i < count; i++) {
         printf("patch %zu of %zu\n", i + 1, count);
@@ -83,14 +83,14 @@ int main(void)
     }
 
     /* on raw numbers each point is nine times what it was above, exactly: this Decode leaves coordinates as they are */
-    reading = mesh_raw_read_type6(data, sizeof data, 8, 8, 8, n, NULL, 0);
-    const size_t numbers_len = reading.count;
-    uint32_t *numbers = (uint32_t *)lend(reading.refused, numbers_len, sizeof *numbers);
+    asked = mesh_raw_read_type6(data, sizeof data, 8, 8, 8, n, NULL, 0);
+    const size_t numbers_len = asked.count;
+    uint32_t *numbers = (uint32_t *)lend(asked, sizeof *numbers);
     mesh_raw_read_type6(data, sizeof data, 8, 8, 8, n, numbers, numbers_len);
 
-    turned = mesh_coons_to_tensor_raw(numbers, numbers_len, n, NULL, 0);
-    int64_t *raw = (int64_t *)lend(turned.refused, turned.count, sizeof *raw);
-    mesh_coons_to_tensor_raw(numbers, numbers_len, n, raw, turned.count);
+    asked = mesh_coons_to_tensor_raw(numbers, numbers_len, n, NULL, 0);
+    int64_t *raw = (int64_t *)lend(asked, sizeof *raw);
+    mesh_coons_to_tensor_raw(numbers, numbers_len, n, raw, asked.count);
     for (size_t k = 12; k < 16; k++) {
         const int64_t *point = mesh_raw_tensor_point(raw, n, 1, k);
         printf("nine times %s of patch 2: %" PRId64 " %" PRId64 "\n", points[k], point[0], point[1]);
@@ -98,10 +98,10 @@ int main(void)
     const int64_t *colour = mesh_raw_tensor_colour(raw, n, 1, 2);
     printf("raw %s of patch 2: %" PRId64 " %" PRId64 " %" PRId64 "\n", corners[2], colour[0], colour[1], colour[2]);
 
-    turned = mesh_coons_to_tensor(coons, coons_len, n, tensor, tensor_len - 1);
-    printf("with one place less: refused %" PRIu64 ", needed %" PRIu64 "\n", turned.refused, turned.count);
-    turned = mesh_coons_to_tensor(coons, mesh_coons_size(n) / 2, n, tensor, tensor_len);
-    printf("with half a patch: refused %" PRIu64 ", needed %" PRIu64 "\n", turned.refused, turned.count);
+    mesh_answer answer = mesh_coons_to_tensor(coons, coons_len, n, tensor, tensor_len - 1);
+    printf("with one place less: refused %" PRIu64 ", needed %" PRIu64 "\n", answer.refused, answer.count);
+    answer = mesh_coons_to_tensor(coons, mesh_coons_size(n) / 2, n, tensor, tensor_len);
+    printf("with half a patch: refused %" PRIu64 ", needed %" PRIu64 "\n", answer.refused, answer.count);
 
     free(raw);
     free(numbers);

@@ -1,5 +1,4 @@
-/* Asks how many doubles a small mesh takes, lends so many, reads it and prints its triangles and where its stream ended. Then the same stream cut,
- * and two calls that are refused, and why.
+/* Asks how many doubles a small mesh takes, lends so many, reads it and prints its triangles. Then two calls that are refused, and why.
  *
  *     cc $(pkg-config --cflags station) read_mesh.c $(pkg-config --libs station) -o read_mesh
  */
@@ -15,9 +14,9 @@ static const uint8_t data[] = {
 static const double decode[] = {0, 255, 0, 255, 0, 1};
 static const size_t n = 1;
 
-static mesh_reading read_mesh(size_t data_len, double *out, size_t room)
+static mesh_answer read_mesh(double *out, size_t room)
 {
-    return mesh_parse_type4(data, data_len, 8, 8, 8, decode, 6, n, out, room);
+    return mesh_parse_type4(data, sizeof data, 8, 8, 8, decode, 6, n, out, room);
 }
 
 static void print_triangles(const double *out, size_t count)
@@ -32,41 +31,28 @@ static void print_triangles(const double *out, size_t count)
     }
 }
 
-static void print_end(mesh_reading reading, size_t data_len)
+static void print_refusal(const char *call, mesh_answer answer)
 {
-    printf("read up to bit %" PRIu64 " of %zu\n", reading.end, 8 * data_len);
-}
-
-static void print_refusal(const char *call, mesh_reading reading)
-{
-    printf("%s: refused %" PRIu64 ", %s\n", call, reading.refused, mesh_refusal_text(reading.refused));
+    printf("%s: refused %" PRIu64 ", %s\n", call, answer.refused, mesh_refusal_text(answer.refused));
 }
 
 int main(void)
 {
-    mesh_reading reading = read_mesh(sizeof data, NULL, 0);
-    if (reading.refused != MESH_ROOM) { /* a mesh of nothing isn't refused, and has nothing to print */
-        print_refusal("asking", reading);
+    mesh_answer answer = read_mesh(NULL, 0);
+    if (answer.refused != MESH_ROOM) { /* a mesh of nothing isn't refused, and has nothing to print */
+        print_refusal("asking", answer);
         return 1;
     }
-    const size_t room = reading.count;
+    const size_t room = answer.count;
     printf("the mesh takes %zu doubles\n", room);
     double *out = (double *)malloc(room * sizeof *out);
     if (out == NULL)
         return 1;
-    reading = read_mesh(sizeof data, out, room);
-    if (reading.refused == 0) {
-        print_triangles(out, reading.count);
-        print_end(reading, sizeof data);
-    }
+    answer = read_mesh(out, room);
+    if (answer.refused == 0)
+        print_triangles(out, answer.count);
 
-    /* the fourth vertex isn't whole any more, so the place where support looks is that of its first bit */
-    const size_t cut = sizeof data - 1;
-    reading = read_mesh(cut, out, room);
-    printf("with the last byte cut off: %" PRIu64 " triangle, ", reading.count);
-    print_end(reading, cut);
-
-    print_refusal("with one place less", read_mesh(sizeof data, out, room - 1));
+    print_refusal("with one place less", read_mesh(out, room - 1));
     print_refusal("with no Decode", mesh_parse_type4(data, sizeof data, 8, 8, 8, NULL, 0, n, NULL, 0));
     free(out);
     return 0;

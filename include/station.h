@@ -11,23 +11,14 @@
  * A caller who doesn't know how large the answer is asks with no output, lends exactly what is needed, and calls again.
  * To ask costs no more than to count, and the second call is never refused for room:
  *
- *     mesh_reading reading = mesh_parse_type6(data, data_len, 16, 8, 8, decode, decode_len, n, NULL, 0);
- *     if (reading.refused == MESH_ROOM) {
- *         out = malloc(reading.count * sizeof *out);
+ *     mesh_answer answer = mesh_parse_type6(data, data_len, 16, 8, 8, decode, decode_len, n, NULL, 0);
+ *     if (answer.refused == MESH_ROOM) {
+ *         out = malloc(answer.count * sizeof *out);
  *         if (out != NULL)
- *             reading = mesh_parse_type6(data, data_len, 16, 8, 8, decode, decode_len, n, out, reading.count);
+ *             answer = mesh_parse_type6(data, data_len, 16, 8, 8, decode, decode_len, n, out, answer.count);
  *     }
  *
  * A mesh of nothing needs no place, and isn't refused when asked for.
- *
- * A reader of bytes also tells where the stream ended: `end` is the bit position after the last complete record, so bit
- * end % 8, from the high end, of byte end / 8. Who misses a part of a mesh looks there. After it 8 * data_len - end bits
- * are left:
- *   - Under 8 of them may be the fill of the last byte, and then nothing is missing.
- *   - In Types 4 and 5 they are fewer than a vertex takes: the stream was cut.
- *   - In Types 6 and 7 they begin with a flag. If they are fewer than it takes, or if it may come, being 0, or 1 to 3 after
- *     a patch, the stream was cut. Any other flag has ended the mesh, and this is the damaged place. To the published
- *     readers a flag is its two low bits.
  *
  * Widths are in bits: `coord` of a coordinate, `comp` of a colour component, `flag` of an edge flag. `n` is how many
  * components a colour has. `decode` is the Decode array: min and max of x, of y and of each component; a missing entry
@@ -61,16 +52,6 @@ typedef struct mesh_answer {
     uint64_t count;
 } mesh_answer;
 
-/* What a reader of bytes answers: the same, and where the stream ended. `end` is the bit position after the last complete
- * record, at most 8 * data_len, and 0 without a record. In Types 4 and 5 a record is a vertex, and one that gives no
- * triangle counts as well; in Types 6 and 7 it is a patch. Cut anywhere from `end` on, the bytes give the same reading; cut
- * before it, fewer records. Where `refused` isn't 0, `end` is 0. */
-typedef struct mesh_reading {
-    uint64_t refused;
-    uint64_t count;
-    uint64_t end;
-} mesh_reading;
-
 /* The refusals. Each is given exactly when its condition holds; where several hold, in the order 1, 2, 3, 6, 5, 4. */
 enum {
     MESH_LAYOUT = 1,     /* a width that the type uses is outside 1 to 32, or Decode has under four entries */
@@ -88,19 +69,19 @@ enum {
  * vertex, in Types 6 and 7 one above 3 ends the mesh. */
 
 /* Reads a free-form triangle mesh (Type 4). */
-mesh_reading mesh_parse_type4(const uint8_t *data, size_t data_len, size_t coord, size_t comp,
+mesh_answer mesh_parse_type4(const uint8_t *data, size_t data_len, size_t coord, size_t comp,
     size_t flag, const double *decode, size_t decode_len, size_t n, double *out, size_t out_len);
 
 /* Reads a lattice-form triangle mesh (Type 5), whose rows have `row` vertices. */
-mesh_reading mesh_parse_type5(const uint8_t *data, size_t data_len, size_t coord, size_t comp,
+mesh_answer mesh_parse_type5(const uint8_t *data, size_t data_len, size_t coord, size_t comp,
     const double *decode, size_t decode_len, size_t n, size_t row, double *out, size_t out_len);
 
 /* Reads a Coons patch mesh (Type 6). */
-mesh_reading mesh_parse_type6(const uint8_t *data, size_t data_len, size_t coord, size_t comp,
+mesh_answer mesh_parse_type6(const uint8_t *data, size_t data_len, size_t coord, size_t comp,
     size_t flag, const double *decode, size_t decode_len, size_t n, double *out, size_t out_len);
 
 /* Reads a tensor-product patch mesh (Type 7). */
-mesh_reading mesh_parse_type7(const uint8_t *data, size_t data_len, size_t coord, size_t comp,
+mesh_answer mesh_parse_type7(const uint8_t *data, size_t data_len, size_t coord, size_t comp,
     size_t flag, const double *decode, size_t decode_len, size_t n, double *out, size_t out_len);
 
 /* ---- Meshes from bytes, as ISO 32000-1 says, but for what docs/DIFFERENCES.md lists. A flag is its two low bits, whatever
@@ -108,19 +89,19 @@ mesh_reading mesh_parse_type7(const uint8_t *data, size_t data_len, size_t coord
  * are those above, and with flags of 1 or 2 bits always. */
 
 /* Reads a free-form triangle mesh (Type 4). */
-mesh_reading mesh_published_type4(const uint8_t *data, size_t data_len, size_t coord, size_t comp,
+mesh_answer mesh_published_type4(const uint8_t *data, size_t data_len, size_t coord, size_t comp,
     size_t flag, const double *decode, size_t decode_len, size_t n, double *out, size_t out_len);
 
 /* Reads a lattice-form triangle mesh (Type 5), whose rows have `row` vertices. */
-mesh_reading mesh_published_type5(const uint8_t *data, size_t data_len, size_t coord, size_t comp,
+mesh_answer mesh_published_type5(const uint8_t *data, size_t data_len, size_t coord, size_t comp,
     const double *decode, size_t decode_len, size_t n, size_t row, double *out, size_t out_len);
 
 /* Reads a Coons patch mesh (Type 6). */
-mesh_reading mesh_published_type6(const uint8_t *data, size_t data_len, size_t coord, size_t comp,
+mesh_answer mesh_published_type6(const uint8_t *data, size_t data_len, size_t coord, size_t comp,
     size_t flag, const double *decode, size_t decode_len, size_t n, double *out, size_t out_len);
 
 /* Reads a tensor-product patch mesh (Type 7). */
-mesh_reading mesh_published_type7(const uint8_t *data, size_t data_len, size_t coord, size_t comp,
+mesh_answer mesh_published_type7(const uint8_t *data, size_t data_len, size_t coord, size_t comp,
     size_t flag, const double *decode, size_t decode_len, size_t n, double *out, size_t out_len);
 
 /* ---- Meshes from a list of numbers, flags among them, as the original Rust builds them */
@@ -163,19 +144,19 @@ mesh_answer mesh_build_published_type7(const double *values, size_t values_len, 
 /* ---- Raw numbers from bytes: those of complete records, before Decode */
 
 /* Type 4: a flag, x, y and components for each vertex. */
-mesh_reading mesh_raw_read_type4(const uint8_t *data, size_t data_len, size_t coord, size_t comp,
+mesh_answer mesh_raw_read_type4(const uint8_t *data, size_t data_len, size_t coord, size_t comp,
     size_t flag, size_t n, uint32_t *out, size_t out_len);
 
 /* Type 5: x, y and components for each vertex. */
-mesh_reading mesh_raw_read_type5(const uint8_t *data, size_t data_len, size_t coord, size_t comp,
+mesh_answer mesh_raw_read_type5(const uint8_t *data, size_t data_len, size_t coord, size_t comp,
     size_t n, uint32_t *out, size_t out_len);
 
 /* Type 6: a flag, points and colours for each patch. */
-mesh_reading mesh_raw_read_type6(const uint8_t *data, size_t data_len, size_t coord, size_t comp,
+mesh_answer mesh_raw_read_type6(const uint8_t *data, size_t data_len, size_t coord, size_t comp,
     size_t flag, size_t n, uint32_t *out, size_t out_len);
 
 /* Type 7: a flag, points and colours for each patch. */
-mesh_reading mesh_raw_read_type7(const uint8_t *data, size_t data_len, size_t coord, size_t comp,
+mesh_answer mesh_raw_read_type7(const uint8_t *data, size_t data_len, size_t coord, size_t comp,
     size_t flag, size_t n, uint32_t *out, size_t out_len);
 
 /* ---- Bytes from raw numbers: read back, they give the same numbers. The last byte is filled with zeros */

@@ -1,4 +1,4 @@
-//! Reads a mesh and prints its triangles, and where its stream ended; then a call that is refused, and why.
+//! Reads a mesh and prints its triangles; then a call that is refused, and why.
 
 use station::{parse, Layout, Refusal, Type4};
 
@@ -17,15 +17,12 @@ const DECODE: [f64; 6] = [0.0, 255.0, 0.0, 255.0, 0.0, 1.0];
 
 /// The lines to be printed.
 pub fn listing() -> Result<String, Refusal> {
-    let reading = parse(Type4, &DATA, LAYOUT, &DECODE)?;
-    let triangles = reading.read;
+    let triangles = parse(Type4, &DATA, LAYOUT, &DECODE)?;
     let mut lines = format!("{} triangles\n", triangles.len());
     for vertex in triangles.iter().flat_map(|triangle| triangle.vertices()) {
         let (x, y, grey) = (vertex.x(), vertex.y(), vertex.components()[0]);
         lines += &format!("x {x} y {y} grey {grey:.3}\n");
     }
-    let bits = 8 * DATA.len();
-    lines += &format!("read up to bit {} of {bits}\n", reading.end);
     if let Err(refusal) = parse(Type4, &DATA, LAYOUT, &[]) {
         lines += &format!("with no Decode: {refusal}\n");
     }

@@ -11,7 +11,7 @@ use crate::{CoonsPatches, Mesh, TensorPatches, Triangles};
 /// ```
 /// // /BitsPerCoordinate 16 /BitsPerComponent 8 /BitsPerFlag 8, with colours in DeviceCMYK
 /// let layout = station::Layout { coordinate: 16, component: 8, flag: 8, components: 4 };
-/// # assert_eq!(station::raw_read(station::Kind::Type4, &[0; 9], layout).unwrap().read, [0; 7]);
+/// # assert_eq!(station::raw_read(station::Kind::Type4, &[0; 9], layout), Ok(vec![0; 7]));
 /// ```
 #[derive(Clone, Copy, Debug, PartialEq, Eq, Hash)]
 pub struct Layout {

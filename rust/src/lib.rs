@@ -2,7 +2,6 @@
 //! every input. This crate puts safe functions over its archive.
 //!
 //! - [`parse`] and [`published`] read a mesh from the bytes of its stream; [`build`] and [`build_published`] build it from a list of numbers.
-//! - A [`Reading`] has what was read of bytes, and where the stream ended: that is where a damaged one is looked at.
 //! - [`tensor`] turns Coons patches into tensor-product patches.
 //! - [`raw_read`] and [`raw_write`] have the numbers of a stream before Decode. What is written is read back exactly.
 //! - [`slices`] has the same functions over memory that the caller lends.
@@ -21,7 +20,7 @@
 //! let layout = Layout { coordinate: 8, component: 8, flag: 8, components: 1 };
 //! let decode = [0.0, 255.0, 0.0, 255.0, 0.0, 1.0];
 //!
-//! let triangles = parse(Type4, &data, layout, &decode)?.read;
+//! let triangles = parse(Type4, &data, layout, &decode)?;
 //! assert_eq!(triangles.len(), 2);
 //! for triangle in &triangles {
 //!     for vertex in triangle.vertices() {
@@ -46,7 +45,6 @@ mod archive;
 mod kinds;
 mod meshes;
 mod owned;
-mod reading;
 mod refusal;
 pub mod slices;
 mod views;
@@ -56,7 +54,6 @@ pub use meshes::{CoonsPatches, Iter, Mesh, Patches, TensorPatches, Triangles};
 pub use owned::{
     build, build_published, parse, published, raw_read, raw_write, tensor, tensor_raw,
 };
-pub use reading::Reading;
 pub use refusal::Refusal;
 pub use views::{Colour, Patch, Triangle, Vertex};
 

@@ -1,36 +1,20 @@
 //! The functions that allocate their answer: once, and exactly as much as it takes.
 
-use crate::{slices, CoonsPatches, Kind, Layout, MeshType, Patch, Reading, Refusal, TensorPatches};
+use crate::{slices, CoonsPatches, Kind, Layout, MeshType, Patch, Refusal, TensorPatches};
 
-/// What a call answers and all that it writes: with nothing lent, it tells how many places that needs, and then exactly so many are lent.
-fn answered<T: Copy + Default, A>(
-    call: impl Fn(&mut [T]) -> Result<A, Refusal>,
-) -> Result<(A, Vec<T>), Refusal> {
-    let mut out = Vec::new();
-    let answer = match call(&mut out) {
-        Err(Refusal::Room { needed }) => {
-            out = vec![T::default(); needed];
-            call(&mut out)?
-        }
-        other => other?,
-    };
-    Ok((answer, out))
-}
-
-/// All that a call writes.
+/// The whole answer of a call: with nothing lent, the call tells how many places that needs, and then exactly so many are lent.
 fn whole<T: Copy + Default>(
     call: impl Fn(&mut [T]) -> Result<usize, Refusal>,
 ) -> Result<Vec<T>, Refusal> {
-    let (_, out) = answered(call)?;
-    Ok(out)
-}
-
-/// All that a reader of bytes writes, and where the stream ended.
-fn whole_reading<T: Copy + Default>(
-    call: impl Fn(&mut [T]) -> Result<Reading<usize>, Refusal>,
-) -> Result<Reading<Vec<T>>, Refusal> {
-    let (reading, out) = answered(call)?;
-    Ok(reading.map(|_| out))
+    match call(&mut []) {
+        Ok(_) => Ok(Vec::new()),
+        Err(Refusal::Room { needed }) => {
+            let mut out = vec![T::default(); needed];
+            call(&mut out)?;
+            Ok(out)
+        }
+        Err(other) => Err(other),
+    }
 }
 
 /// Reads a mesh from the bytes of its stream, as the original Rust does.
@@ -38,7 +22,7 @@ fn whole_reading<T: Copy + Default>(
 /// A flag is the whole number: in Type 4 one of 3 or more drops its vertex, in Types 6 and 7 one above 3 ends the mesh.
 ///
 /// `decode` is the shading's Decode array: min and max of x, of y and of each component. Missing entries of a component are 0 and 1. What stands in
-/// the stream after the last complete triangle or patch gives nothing. The [`Reading`] has the mesh, and where the last complete record ended.
+/// the stream after the last complete triangle or patch gives nothing.
 ///
 /// # Errors
 ///
@@ -60,9 +44,7 @@ fn whole_reading<T: Copy + Default>(
 /// ];
 /// let layout = Layout { coordinate: 8, component: 8, flag: 8, components: 4 };
 /// let decode = [0.0, 255.0, 0.0, 255.0, 0.0, 1.0, 0.0, 1.0, 0.0, 1.0, 0.0, 1.0];
-/// let reading = parse(Type4, &data, layout, &decode)?;
-/// assert_eq!(reading.end, 8 * data.len());
-/// let triangles = reading.read;
+/// let triangles = parse(Type4, &data, layout, &decode)?;
 /// assert_eq!(triangles.len(), 1);
 /// let [first, second, _] = triangles.get(0).unwrap().vertices();
 /// assert_eq!(first.rgb(), &[0.0, 1.0, 1.0]);
@@ -85,7 +67,7 @@ fn whole_reading<T: Copy + Default>(
 /// }
 ///
 /// fn draw(kind: MeshKind, data: &[u8], layout: Layout, decode: &[f64]) -> Result<(), Refusal> {
-///     match parse(kind, data, layout, decode)?.read {
+///     match parse(kind, data, layout, decode)? {
 ///         Mesh::Triangles(triangles) => draw_triangles(&triangles),
 ///         Mesh::Coons(patches) => draw_patches(&tensor(&patches)),
 ///         Mesh::Tensor(patches) => draw_patches(&patches),
@@ -100,9 +82,9 @@ pub fn parse<K: MeshType>(
     data: &[u8],
     layout: Layout,
     decode: &[f64],
-) -> Result<Reading<K::Mesh>, Refusal> {
-    let reading = whole_reading(|out| slices::parse(kind.into(), data, layout, decode, out))?;
-    Ok(reading.map(|numbers| kind.mesh(numbers, layout.components)))
+) -> Result<K::Mesh, Refusal> {
+    let numbers = whole(|out| slices::parse(kind.into(), data, layout, decode, out))?;
+    Ok(kind.mesh(numbers, layout.components))
 }
 
 /// Reads a mesh from the bytes of its stream, as ISO 32000-1 has it, but for what the library's `docs/DIFFERENCES.md` lists.
@@ -124,8 +106,8 @@ pub fn parse<K: MeshType>(
 /// let data = [0, 0, 0, 0, 100, 0, 0, 0, 100, 5, 100, 100];
 /// let layout = Layout { coordinate: 8, component: 8, flag: 8, components: 0 };
 /// let decode = [0.0, 255.0, 0.0, 255.0];
-/// assert_eq!(published(Type4, &data, layout, &decode)?.read.len(), 2);
-/// assert_eq!(parse(Type4, &data, layout, &decode)?.read.len(), 1);
+/// assert_eq!(published(Type4, &data, layout, &decode)?.len(), 2);
+/// assert_eq!(parse(Type4, &data, layout, &decode)?.len(), 1);
 /// # Ok(())
 /// # }
 /// ```
@@ -134,9 +116,9 @@ pub fn published<K: MeshType>(
     data: &[u8],
     layout: Layout,
     decode: &[f64],
-) -> Result<Reading<K::Mesh>, Refusal> {
-    let reading = whole_reading(|out| slices::published(kind.into(), data, layout, decode, out))?;
-    Ok(reading.map(|numbers| kind.mesh(numbers, layout.components)))
+) -> Result<K::Mesh, Refusal> {
+    let numbers = whole(|out| slices::published(kind.into(), data, layout, decode, out))?;
+    Ok(kind.mesh(numbers, layout.components))
 }
 
 /// Builds a mesh from a list of numbers, flags among them, as the original Rust does.
@@ -212,7 +194,7 @@ pub fn build_published<K: MeshType>(
 ///
 /// # Examples
 ///
-/// What [`raw_write`] accepts is read back exactly, up to the last byte:
+/// What [`raw_write`] accepts is read back exactly:
 ///
 /// ```
 /// use station::{raw_read, raw_write, Kind, Layout, Refusal};
@@ -222,14 +204,12 @@ pub fn build_published<K: MeshType>(
 /// let numbers = [0, 9, 6, 15];
 /// let bytes = raw_write(Kind::Type4, &numbers, layout)?;
 /// assert_eq!(bytes, [0x25, 0xBC]);
-/// let reading = raw_read(Kind::Type4, &bytes, layout)?;
-/// assert_eq!(reading.read, numbers);
-/// assert_eq!(reading.end, 14); // and two bits fill the last byte
+/// assert_eq!(raw_read(Kind::Type4, &bytes, layout)?, numbers);
 /// # Ok(())
 /// # }
 /// ```
-pub fn raw_read(kind: Kind, data: &[u8], layout: Layout) -> Result<Reading<Vec<u32>>, Refusal> {
-    whole_reading(|out| slices::raw_read(kind, data, layout, out))
+pub fn raw_read(kind: Kind, data: &[u8], layout: Layout) -> Result<Vec<u32>, Refusal> {
+    whole(|out| slices::raw_read(kind, data, layout, out))
 }
 
 /// Packs raw numbers, flags among them, into the bytes of a stream. The last byte is filled with zeros.

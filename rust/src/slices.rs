@@ -1,8 +1,8 @@
 //! The functions of the archive over lent slices: nothing is allocated.
 //!
-//! A call answers how much it wrote, or a refusal; then it has changed nothing that was lent. One that reads bytes answers a [`Reading`], which also says
-//! where the stream ended. What stands in the output after the answer is left as it was. Where the output is too small for the whole answer,
-//! [`Refusal::Room`] tells how many elements are needed. So a caller who doesn't know it asks with an empty output, lends exactly so many, and calls again.
+//! A call answers how much it wrote, or a refusal; then it has changed nothing that was lent. What stands in the output after the answer is left as it
+//! was. Where the output is too small for the whole answer, [`Refusal::Room`] tells how many elements are needed. So a caller who doesn't know it asks
+//! with an empty output, lends exactly so many, and calls again.
 //!
 //! A mesh is written as rows of numbers. A colour is 8 + n numbers: r, g, b, a mark, c, m, y, k, then the n components as they were read. The mark is 1
 //! where n is 4, and 0 otherwise, with 0 for the four inks. A vertex is x, y and its colour; a triangle is three vertices. A patch is 12 points (Type 6)
@@ -25,14 +25,14 @@
 //!
 //! let mut out = Vec::new();
 //! for data in [[0, 0, 0, 0, 0, 9, 0, 0, 0, 0, 9, 0, 1, 9, 9, 255].as_slice(), &[0; 12]] {
-//!     let reading = match read(data, &mut out) {
+//!     let count = match read(data, &mut out) {
 //!         Err(Refusal::Room { needed }) => {
 //!             out.resize(needed, 0.0);
 //!             read(data, &mut out)?
 //!         }
 //!         other => other?,
 //!     };
-//!     let triangles = Triangles::lent(&out, reading.read, 1).expect("as many as were written");
+//!     let triangles = Triangles::lent(&out, count, 1).expect("as many as were written");
 //!     assert_eq!(triangles.len(), data.len() / 4 - 2);
 //! }
 //! // the first mesh has two triangles, and that was enough for the second
@@ -42,35 +42,15 @@
 //! ```
 
 use crate::archive::*;
-use crate::{Kind, Layout, MeshKind, Reading, Refusal};
+use crate::{Kind, Layout, MeshKind, Refusal};
 
-/// Functions that do the same for each type. Those of the types with flags share a signature.
-struct ByType<F, L> {
-    type4: F,
-    type5: L,
-    type6: F,
-    type7: F,
+/// The functions of one reading of bytes, by type.
+struct Readers {
+    type4: Parse,
+    type5: ParseLattice,
+    type6: Parse,
+    type7: Parse,
 }
-
-impl<F, L> ByType<F, L> {
-    /// Calls the function of a type; that of the lattice needs the row length, too.
-    fn call_of<A>(
-        self,
-        kind: MeshKind,
-        flagged: impl FnOnce(F) -> A,
-        lattice: impl FnOnce(L, usize) -> A,
-    ) -> A {
-        match kind {
-            MeshKind::Type4 => flagged(self.type4),
-            MeshKind::Type5 { row_length } => lattice(self.type5, row_length),
-            MeshKind::Type6 => flagged(self.type6),
-            MeshKind::Type7 => flagged(self.type7),
-        }
-    }
-}
-
-/// The functions of one reading of bytes.
-type Readers = ByType<Parse, ParseLattice>;
 
 impl Readers {
     fn call(
@@ -80,18 +60,30 @@ impl Readers {
         l: Layout,
         decode: &[f64],
         out: &mut [f64],
-    ) -> Result<Reading<usize>, Refusal> {
+    ) -> Result<usize, Refusal> {
         let (d, dn, o, on) = (data.as_ptr(), data.len(), out.as_mut_ptr(), out.len());
         let (e, en) = (decode.as_ptr(), decode.len());
         let (x, c, n) = (l.coordinate, l.component, l.components);
         let flagged = |f: Parse| unsafe { f(d, dn, x, c, l.flag, e, en, n, o, on) };
-        let lattice = |f: ParseLattice, row| unsafe { f(d, dn, x, c, e, en, n, row, o, on) };
-        self.call_of(kind, flagged, lattice).result()
+        match kind {
+            MeshKind::Type4 => flagged(self.type4),
+            MeshKind::Type5 { row_length } => unsafe {
+                (self.type5)(d, dn, x, c, e, en, n, row_length, o, on)
+            },
+            MeshKind::Type6 => flagged(self.type6),
+            MeshKind::Type7 => flagged(self.type7),
+        }
+        .result()
     }
 }
 
-/// The functions of one reading of a list.
-type Builders = ByType<Build, BuildLattice>;
+/// The functions of one reading of a list, by type.
+struct Builders {
+    type4: Build,
+    type5: BuildLattice,
+    type6: Build,
+    type7: Build,
+}
 
 impl Builders {
     fn call(
@@ -103,12 +95,17 @@ impl Builders {
     ) -> Result<usize, Refusal> {
         let (v, vn, o, on) = (values.as_ptr(), values.len(), out.as_mut_ptr(), out.len());
         let flagged = |f: Build| unsafe { f(v, vn, n, o, on) };
-        let lattice = |f: BuildLattice, row| unsafe { f(v, vn, n, row, o, on) };
-        self.call_of(kind, flagged, lattice).result()
+        match kind {
+            MeshKind::Type4 => flagged(self.type4),
+            MeshKind::Type5 { row_length } => unsafe { (self.type5)(v, vn, n, row_length, o, on) },
+            MeshKind::Type6 => flagged(self.type6),
+            MeshKind::Type7 => flagged(self.type7),
+        }
+        .result()
     }
 }
 
-/// Reads a mesh from bytes, as the original Rust does. A flag is the whole number. Answers how many triangles or patches, and where the stream ended.
+/// Reads a mesh from bytes, as the original Rust does. A flag is the whole number. Answers how many triangles or patches.
 ///
 /// `decode` is the shading's Decode array: min and max of x, of y and of each component. Missing entries of a component are 0 and 1.
 ///
@@ -121,7 +118,7 @@ pub fn parse(
     layout: Layout,
     decode: &[f64],
     out: &mut [f64],
-) -> Result<Reading<usize>, Refusal> {
+) -> Result<usize, Refusal> {
     let readers = Readers {
         type4: mesh_parse_type4,
         type5: mesh_parse_type5,
@@ -132,7 +129,7 @@ pub fn parse(
 }
 
 /// Reads a mesh from bytes, as ISO 32000-1 has it, but for what the library's `docs/DIFFERENCES.md` lists. A flag is its two low bits. Answers how many
-/// triangles or patches, and where the stream ended.
+/// triangles or patches.
 ///
 /// # Errors
 ///
@@ -143,7 +140,7 @@ pub fn published(
     layout: Layout,
     decode: &[f64],
     out: &mut [f64],
-) -> Result<Reading<usize>, Refusal> {
+) -> Result<usize, Refusal> {
     let readers = Readers {
         type4: mesh_published_type4,
         type5: mesh_published_type5,
@@ -194,7 +191,7 @@ pub fn build_published(
     builders.call(kind, values, components, out)
 }
 
-/// Reads the raw numbers of a stream's complete records, flags among them, before Decode. Answers how many, and where the stream ended.
+/// Reads the raw numbers of a stream's complete records, flags among them, before Decode. Answers how many.
 ///
 /// # Errors
 ///
@@ -204,7 +201,7 @@ pub fn raw_read(
     data: &[u8],
     layout: Layout,
     out: &mut [u32],
-) -> Result<Reading<usize>, Refusal> {
+) -> Result<usize, Refusal> {
     let (d, dn, o, on) = (data.as_ptr(), data.len(), out.as_mut_ptr(), out.len());
     let (x, c, n) = (layout.coordinate, layout.component, layout.components);
     let flagged = |f: RawRead| unsafe { f(d, dn, x, c, layout.flag, n, o, on) };

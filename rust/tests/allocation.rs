@@ -70,12 +70,10 @@ fn a_mesh_is_one_allocation() {
                 assert_eq!(took, (1, 8 * needed));
                 assert_eq!((numbers.len(), numbers.capacity()), (needed, needed));
             };
-            for read in [station::parse, station::published] {
-                check(&|| Ok(read(kind, &data, layout(n), &decode)?.read));
-            }
-            for build in [station::build, station::build_published] {
-                check(&|| build(kind, &list, n));
-            }
+            check(&|| station::parse(kind, &data, layout(n), &decode));
+            check(&|| station::published(kind, &data, layout(n), &decode));
+            check(&|| station::build(kind, &list, n));
+            check(&|| station::build_published(kind, &list, n));
         }
     }
 }
@@ -95,9 +93,8 @@ fn raw_answers_are_one_allocation() {
     for kind in KINDS {
         let (data, list) = (bytes(kind, 1), numbers(kind, 1));
         let (kind, count) = (raw_kind(kind), list.len());
-        let (reading, took) = taken(|| station::raw_read(kind, &data, layout(1)));
-        assert_eq!(reading.map(|reading| reading.read).as_ref(), Ok(&list));
-        assert_eq!(took, (1, 4 * count));
+        let (read, took) = taken(|| station::raw_read(kind, &data, layout(1)));
+        assert_eq!((read.as_ref(), took), (Ok(&list), (1, 4 * count)));
         let (written, took) = taken(|| station::raw_write(kind, &list, layout(1)));
         assert_eq!((written.as_ref(), took), (Ok(&data), (1, count)));
     }
@@ -110,8 +107,8 @@ fn raw_answers_are_one_allocation() {
 #[test]
 fn an_empty_answer_and_a_refusal_are_none() {
     for kind in KINDS {
-        let (reading, took) = taken(|| station::parse(kind, &[], layout(1), &[0.0; 4]));
-        assert_eq!(into_numbers(reading.expect("an empty mesh").read), []);
+        let (mesh, took) = taken(|| station::parse(kind, &[], layout(1), &[0.0; 4]));
+        assert_eq!(into_numbers(mesh.expect("an empty mesh")), []);
         assert_eq!(took, (0, 0));
         let (refused, took) = taken(|| station::parse(kind, &[], layout(33), &[0.0; 4]));
         assert_eq!(refused, Err(Refusal::Components));

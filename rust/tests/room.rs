@@ -3,16 +3,16 @@
 mod samples;
 
 use samples::{bytes, decode, layout, numbers, raw_kind, size, values, COMPONENTS, KINDS};
+use station::slices;
 use station::Refusal::{self, Room};
-use station::{slices, Reading};
 use std::fmt::Debug;
 
 /// Lends nothing, one place less than is needed, exactly so many, and one more.
-fn check<T: Copy + PartialEq + Debug, A: Copy + PartialEq + Debug>(
+fn check<T: Copy + PartialEq + Debug>(
     [before, other]: [T; 2],
-    answer: A,
+    count: usize,
     needed: usize,
-    call: impl Fn(&mut [T]) -> Result<A, Refusal>,
+    call: impl Fn(&mut [T]) -> Result<usize, Refusal>,
 ) {
     assert_eq!(call(&mut []), Err(Room { needed }));
     let mut less = vec![before; needed - 1];
@@ -20,9 +20,9 @@ fn check<T: Copy + PartialEq + Debug, A: Copy + PartialEq + Debug>(
     assert_eq!(less, vec![before; needed - 1]);
 
     let mut exact = vec![before; needed];
-    assert_eq!(call(&mut exact), Ok(answer));
+    assert_eq!(call(&mut exact), Ok(count));
     let mut more = vec![other; needed + 1];
-    assert_eq!(call(&mut more), Ok(answer));
+    assert_eq!(call(&mut more), Ok(count));
     assert_eq!(more.pop(), Some(other));
     // what stood there before differs, so a place that isn't written would show
     assert_eq!(exact, more);
@@ -34,19 +34,13 @@ fn of_meshes() {
         for n in COMPONENTS {
             let (count, each) = size(kind, n);
             let (data, list, decode) = (bytes(kind, n), values(kind, n), decode(n));
-            let (fill, needed) = ([-7.0, -8.0], count * each);
-            for build in [slices::build, slices::build_published] {
-                check(fill, count, needed, |out| build(kind, &list, n, out));
-            }
-            let reading = Reading {
-                read: count,
-                end: 8 * data.len(),
+            let check = |call: &dyn Fn(&mut [f64]) -> Result<usize, Refusal>| {
+                check([-7.0, -8.0], count, count * each, call)
             };
-            for parse in [slices::parse, slices::published] {
-                check(fill, reading, needed, |out| {
-                    parse(kind, &data, layout(n), &decode, out)
-                });
-            }
+            check(&|out| slices::parse(kind, &data, layout(n), &decode, out));
+            check(&|out| slices::published(kind, &data, layout(n), &decode, out));
+            check(&|out| slices::build(kind, &list, n, out));
+            check(&|out| slices::build_published(kind, &list, n, out));
         }
     }
 }
@@ -57,11 +51,7 @@ fn of_raw_numbers() {
         for n in COMPONENTS {
             let (data, list) = (bytes(kind, n), numbers(kind, n));
             let (kind, l, count) = (raw_kind(kind), layout(n), list.len());
-            let reading = Reading {
-                read: count,
-                end: 8 * data.len(),
-            };
-            check([777, 888], reading, count, |out| {
+            check([777, 888], count, count, |out| {
                 slices::raw_read(kind, &data, l, out)
             });
             check([0xFE, 0xFF], count, count, |out| {
@@ -92,15 +82,12 @@ fn of_patches_turned() {
 fn an_empty_answer_needs_none() {
     for kind in KINDS {
         let l = layout(1);
-        let nothing = Ok(Reading { read: 0, end: 0 });
-        for parse in [slices::parse, slices::published] {
-            assert_eq!(parse(kind, &[], l, &decode(1), &mut []), nothing);
-        }
+        assert_eq!(slices::parse(kind, &[], l, &decode(1), &mut []), Ok(0));
+        assert_eq!(slices::published(kind, &[], l, &decode(1), &mut []), Ok(0));
         assert_eq!(slices::build(kind, &[], 1, &mut []), Ok(0));
         assert_eq!(slices::build_published(kind, &[], 1, &mut []), Ok(0));
-        let kind = raw_kind(kind);
-        assert_eq!(slices::raw_read(kind, &[], l, &mut []), nothing);
-        assert_eq!(slices::raw_write(kind, &[], l, &mut []), Ok(0));
+        assert_eq!(slices::raw_read(raw_kind(kind), &[], l, &mut []), Ok(0));
+        assert_eq!(slices::raw_write(raw_kind(kind), &[], l, &mut []), Ok(0));
     }
     assert_eq!(slices::coons_to_tensor_raw(&[], 1, &mut []), Ok(0));
     assert_eq!(slices::coons_to_tensor(&[], 1, &mut []), Ok(0));

@@ -90,9 +90,7 @@ fn what_a_reader_answers_is_turned() {
         components: 1,
     };
     let decode = [0.0, 255.0, 0.0, 255.0, 0.0, 255.0];
-    let coons = parse(Type6, &bytes, layout, &decode)
-        .expect("two patches")
-        .read;
+    let coons = parse(Type6, &bytes, layout, &decode).expect("two patches");
     let patches = coons.numbers();
     let mut out = [7.0; 2 * 68 + 1];
     assert_eq!(

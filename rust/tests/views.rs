@@ -4,14 +4,9 @@ mod samples;
 
 use samples::{bytes, decode, layout, values, KINDS};
 use station::{build, parse, published, slices, tensor};
-use station::{Colour, CoonsPatches, Mesh, MeshKind, Reading, Refusal, TensorPatches, Triangles};
+use station::{Colour, CoonsPatches, Mesh, MeshKind, Refusal, TensorPatches, Triangles};
 use station::{Type4, Type5, Type6, Type7, Vertex};
 use std::ptr;
-
-/// What was read, in a reading that isn't refused.
-fn read<T>(reading: Result<Reading<T>, Refusal>) -> T {
-    reading.expect("a reading").read
-}
 
 /// A triangle of three vertices with the same colour.
 fn coloured(components: &[f64]) -> Triangles {
@@ -63,7 +58,7 @@ fn a_colour_of_each_count_of_components() {
 
 #[test]
 fn a_view_is_a_part_of_the_mesh() {
-    let triangles = read(parse(Type4, &bytes(KINDS[0], 4), layout(4), &decode(4)));
+    let triangles = parse(Type4, &bytes(KINDS[0], 4), layout(4), &decode(4)).expect("a mesh");
     let numbers = triangles.numbers();
     let [_, _, vertex] = triangles.get(1).expect("a triangle").vertices();
     let at = 42 + 28;
@@ -73,7 +68,7 @@ fn a_view_is_a_part_of_the_mesh() {
     assert!(ptr::eq(inks.as_slice(), &numbers[at + 6..at + 10]));
     assert!(ptr::eq(vertex.components(), &numbers[at + 10..at + 14]));
 
-    let patches = read(parse(Type7, &bytes(KINDS[3], 4), layout(4), &decode(4)));
+    let patches = parse(Type7, &bytes(KINDS[3], 4), layout(4), &decode(4)).expect("a mesh");
     let numbers = patches.numbers();
     let patch = patches.get(1).expect("a patch");
     let points = patch.points().as_flattened();
@@ -124,7 +119,7 @@ fn the_points_and_colours_of_patches() {
     assert_eq!(second.points()[4..6], [[29.0, 30.0], [31.0, 32.0]]);
     assert_eq!(firsts(second.colours()), [26.0, 27.0, 45.0, 46.0]);
 
-    let tensor = read(published(Type7, &bytes(KINDS[3], 1), layout(1), &decode(1)));
+    let tensor = published(Type7, &bytes(KINDS[3], 1), layout(1), &decode(1)).expect("a mesh");
     let [first, second] = [0, 1].map(|place| tensor.get(place).expect("a patch"));
     assert_eq!(first.points().len(), 16);
     assert_eq!(first.points()[15], [31.0, 32.0]);
@@ -141,18 +136,16 @@ fn a_kind_of_its_own_answers_what_a_mesh_kind_does() {
     let (l, decode) = (layout(n), decode(n));
     for kind in KINDS {
         let data = bytes(kind, n);
-        let reading = parse(kind, &data, l, &decode);
+        let mesh = parse(kind, &data, l, &decode).expect("a mesh");
         let typed = match kind {
-            MeshKind::Type4 => parse(Type4, &data, l, &decode).map(|r| r.map(Mesh::Triangles)),
+            MeshKind::Type4 => parse(Type4, &data, l, &decode).map(Mesh::Triangles),
             MeshKind::Type5 { row_length } => {
-                let kind = Type5 { row_length };
-                parse(kind, &data, l, &decode).map(|r| r.map(Mesh::Triangles))
+                parse(Type5 { row_length }, &data, l, &decode).map(Mesh::Triangles)
             }
-            MeshKind::Type6 => parse(Type6, &data, l, &decode).map(|r| r.map(Mesh::Coons)),
-            MeshKind::Type7 => parse(Type7, &data, l, &decode).map(|r| r.map(Mesh::Tensor)),
+            MeshKind::Type6 => parse(Type6, &data, l, &decode).map(Mesh::Coons),
+            MeshKind::Type7 => parse(Type7, &data, l, &decode).map(Mesh::Tensor),
         };
-        assert!(typed.is_ok());
-        assert_eq!(typed, reading);
+        assert_eq!(typed, Ok(mesh));
     }
 }
 
@@ -179,13 +172,13 @@ fn an_iterator_knows_its_length_and_goes_both_ways() {
 
 #[test]
 fn an_empty_mesh_has_nothing_to_view() {
-    let triangles = read(parse(Type4, &[0; 11], layout(1), &decode(1)));
+    let triangles = parse(Type4, &[0; 11], layout(1), &decode(1)).expect("no triangle");
     assert_eq!((triangles.len(), triangles.is_empty()), (0, true));
     assert_eq!(triangles.components(), 1);
     assert_eq!(triangles.get(0), None);
     assert_eq!(triangles.iter().next(), None);
     assert!(triangles.numbers().is_empty());
-    let patches = read(parse(Type6, &[0; 28], layout(1), &decode(1)));
+    let patches = parse(Type6, &[0; 28], layout(1), &decode(1)).expect("no patch");
     assert!(patches.is_empty());
     assert!(tensor(&patches).is_empty());
     assert!(!coloured(&[0.5]).is_empty());
@@ -195,10 +188,10 @@ fn an_empty_mesh_has_nothing_to_view() {
 fn views_over_an_output_that_was_lent() {
     let mut out = vec![-7.0; 200];
     let (kind, data) = (KINDS[0], bytes(KINDS[0], 1));
-    let reading = slices::parse(kind, &data, layout(1), &decode(1), &mut out);
-    assert_eq!(read(reading), 2);
+    let count = slices::parse(kind, &data, layout(1), &decode(1), &mut out);
+    assert_eq!(count, Ok(2));
     let lent = Triangles::lent(&out, 2, 1).expect("two triangles");
-    let owned = read(parse(Type4, &data, layout(1), &decode(1)));
+    let owned = parse(Type4, &data, layout(1), &decode(1)).expect("two triangles");
     assert!(lent.iter().eq(&owned));
     assert_eq!(lent.numbers(), owned.numbers());
 
@@ -214,10 +207,10 @@ fn views_over_an_output_that_was_lent() {
     assert_eq!((last.x(), last.y()), (10.0, 11.0));
 
     let (kind, data) = (KINDS[2], bytes(KINDS[2], 1));
-    let reading = slices::parse(kind, &data, layout(1), &decode(1), &mut out);
-    assert_eq!(read(reading), 2);
+    let count = slices::parse(kind, &data, layout(1), &decode(1), &mut out);
+    assert_eq!(count, Ok(2));
     let lent = CoonsPatches::lent(&out, 2, 1).expect("two patches");
-    let owned = read(parse(Type6, &data, layout(1), &decode(1)));
+    let owned = parse(Type6, &data, layout(1), &decode(1)).expect("two patches");
     assert!(lent.iter().eq(&owned));
     assert_eq!(tensor(&lent), tensor(&owned));
 }
@@ -255,9 +248,9 @@ fn a_mesh_prints_by_its_parts() {
 
 #[test]
 fn a_refusal_goes_on_as_an_error() {
-    fn triangles() -> Result<Triangles, Box<dyn std::error::Error + Send + Sync>> {
-        Ok(parse(Type4, &[], layout(33), &decode(33))?.read)
+    fn read() -> Result<Triangles, Box<dyn std::error::Error + Send + Sync>> {
+        Ok(parse(Type4, &[], layout(33), &decode(33))?)
     }
-    let error = triangles().expect_err("a refusal");
+    let error = read().expect_err("a refusal");
     assert_eq!(error.downcast_ref(), Some(&Refusal::Components));
 }

@@ -1,5 +1,5 @@
 //! Two builds of the library beside each other: the ported, the published and the raw readers of both, on the same input in one run. Each build is
-//! a shared object made of its archive, with the functions that `station.h` declares. No flag is above 3, so the ported and the published mesh are one.
+//! a shared object made of its archive. No flag is above 3, so the ported and the published mesh are one.
 
 use crate::meshes::KINDS;
 use crate::stream;
@@ -24,13 +24,11 @@ const ROW_LENGTH: usize = 3;
 /// Each reader is timed at most so often on an input, so that the whole takes well under a minute.
 const RUNS: usize = 15;
 
-/// What a reader of bytes answers, as `station.h` declares it. Its size decides how it comes back from a call, so a build that answers less can't be
-/// loaded as it is.
+/// What a call answers, as `station.h` declares it.
 #[repr(C)]
 struct Told {
     refused: u64,
     count: u64,
-    end: u64,
 }
 
 type Parse = unsafe extern "C" fn(

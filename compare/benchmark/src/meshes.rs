@@ -138,7 +138,7 @@ fn measure_stream(kind: Kind, l: Layout, size: usize) -> Share {
         },
     };
     measure(kind, call, &mut |out| {
-        parse(mesh_kind(kind), black_box(&data), l, &decode, out).map(|reading| reading.read)
+        parse(mesh_kind(kind), black_box(&data), l, &decode, out)
     })
 }
 

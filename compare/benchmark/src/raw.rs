@@ -49,8 +49,7 @@ pub fn print() {
                     let data = stream::bytes(kind, l, size);
                     let records: Vec<_> = (0..16).map(|i| stream::record(kind, l, i).1).collect();
                     let mut numbers = vec![0u32; 8 * size];
-                    let reading = raw_read(kind, &data, l, &mut numbers).expect("readable");
-                    let count = reading.read;
+                    let count = raw_read(kind, &data, l, &mut numbers).expect("readable");
                     numbers.truncate(count);
                     let mut theirs = numbers.clone();
                     // the longest list of whole turns of the sixteen records that the writer takes

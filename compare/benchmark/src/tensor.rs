@@ -153,11 +153,11 @@ fn raw_list(n: usize, size: usize) -> Vec<u32> {
     // a number takes one to four bytes
     let data = stream::bytes(Kind::Type6, l, 4 * size);
     let mut list = vec![0u32; 4 * size];
-    let reading = raw_read(Kind::Type6, &data, l, &mut list).expect("readable");
+    let count = raw_read(Kind::Type6, &data, l, &mut list).expect("readable");
     let turn: usize = (0..4)
         .map(|i| stream::record(Kind::Type6, l, i).1.len())
         .sum();
-    list.truncate(reading.read.min(size) / turn * turn);
+    list.truncate(count.min(size) / turn * turn);
     list
 }
 

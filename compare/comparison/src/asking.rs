@@ -11,8 +11,8 @@ const REFUSED: usize = 256;
 
 /// What a call should give, were there room enough.
 pub struct Whole<'a, T> {
-    /// The answer, if need be with the refusal that comes before ROOM.
-    pub answer: Answer,
+    /// The count of an accepted call, or the refusal that comes before ROOM.
+    pub count: Result<usize, Refusal>,
     /// The numbers of an accepted call; a refused one has none.
     pub numbers: &'a [T],
 }
@@ -21,9 +21,9 @@ impl<T: Place> Whole<'_, T> {
     /// The answer with so many places lent.
     fn answer(&self, places: usize) -> Answer {
         let needed = self.numbers.len();
-        match self.answer.wrote {
-            Ok(_) if places < needed => Refusal::Room { needed }.into(),
-            _ => self.answer,
+        match self.count {
+            Ok(_) if places < needed => Err(Refusal::Room { needed }),
+            other => other,
         }
     }
 
@@ -37,7 +37,7 @@ impl<T: Place> Whole<'_, T> {
         check: impl Fn(&[T]) -> Result<(), Fault>,
     ) -> Result<(), Fault> {
         let needed = self.numbers.len();
-        let own = room.places(match self.answer.wrote {
+        let own = room.places(match self.count {
             Ok(_) => needed,
             Err(_) => REFUSED,
         });
@@ -77,7 +77,7 @@ impl<T: Place> Whole<'_, T> {
         if answer != expected {
             return Err(Fault::of_answer(expected, answer).with(places));
         }
-        let (written, checked) = match answer.wrote {
+        let (written, checked) = match answer {
             Ok(_) => {
                 let numbers = self.numbers.len();
                 (numbers, check(lent.written(numbers)))

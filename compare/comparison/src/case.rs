@@ -256,7 +256,7 @@ impl Case {
                     .collect()
             }
             Input::Bytes(data) if data.len() <= MOST_RESHAPED => {
-                let numbers = low_flag_reading(kind, l, data).numbers;
+                let numbers = low_flag_reading(kind, l, data);
                 repacked(kind, l, &numbers)
                     .into_iter()
                     .filter(|(_, bytes)| bytes.len() <= data.len() && bytes != data)

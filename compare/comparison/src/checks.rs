@@ -1,6 +1,5 @@
 //! Checks the answers and the lent outputs of a mesh function against the original and document 01's table. Where a published reader is asked, the
-//! original reads the same bytes with all but the two low bits of each flag cleared. The original doesn't tell where a stream ends: its bit reader walks
-//! over the records once more.
+//! original reads the same bytes with all but the two low bits of each flag cleared.
 //!
 //! The original is run for every case but those that the table refuses with COMPONENTS or LENGTH: it would read them, and it multiplies and
 //! allocates by the count of components. Of those only the refusal and the unchanged output are checked.
@@ -10,7 +9,7 @@ use crate::case::{plain, Case, Input, Origin};
 use crate::cleared::cleared;
 use crate::lent::{first_other, Lent, Place};
 use crate::library::{Answer, Library, Reading};
-use crate::record::{is_patched, low_flag_reading, mesh_flags, raw_reading};
+use crate::record::{is_patched, mesh_flags, raw_reading};
 use rows::same_number;
 use station::{Kind, Refusal};
 use std::fmt;
@@ -19,8 +18,6 @@ use std::fmt;
 pub struct Expected {
     /// The count of triangles or patches, or the refusal that comes before ROOM.
     pub count: Result<usize, Refusal>,
-    /// Where the stream ends: 0 for a refused call and for a list.
-    pub end: usize,
     pub is_by_original: bool,
     /// Whether the original was given other bytes, because a flag is above 3.
     pub is_cleared: bool,
@@ -47,11 +44,9 @@ impl Expected {
         if case.refused_at_once().is_some() {
             return None;
         }
-        let (kind, layout) = (plain(case.kind), case.layout);
-        let low = cleared(kind, layout, data);
+        let low = cleared(plain(case.kind), case.layout, data);
         (low != *data).then(|| Expected {
             is_cleared: true,
-            end: low_flag_reading(kind, layout, data).end,
             ..Expected::ported(&case.with_input(Input::Bytes(low)))
         })
     }
@@ -66,7 +61,6 @@ impl Expected {
             );
             return Expected {
                 count: Err(refusal),
-                end: 0,
                 is_by_original,
                 is_cleared: false,
                 rows: Vec::new(),
@@ -75,45 +69,30 @@ impl Expected {
         }
         let (count, rows) = case.original();
         assert_eq!(rows.len(), count * case.stride(), "rows of\n{case}");
-        let (flags, end) = flags_and_end(case);
         Expected {
             count: Ok(count),
-            end,
             is_by_original: true,
             is_cleared: false,
-            flags,
+            flags: flags(case),
             rows,
         }
     }
-
-    /// The answer with room enough.
-    fn answer(&self) -> Answer {
-        Answer {
-            wrote: self.count,
-            end: self.end,
-        }
-    }
 }
 
-/// The flags that the checks need, and where the stream ends, worked out beside the original.
-pub fn flags_and_end(case: &Case) -> (Option<Vec<u32>>, usize) {
+/// The flags that the checks need, worked out beside the original.
+pub fn flags(case: &Case) -> Option<Vec<u32>> {
     let (kind, n) = (plain(case.kind), case.layout.components);
     match &case.input {
-        Input::List(_) if kind == Kind::Type5 => (None, 0),
-        Input::List(list) => {
+        Input::List(list) if kind != Kind::Type5 => {
             let numbers: Vec<u32> = list.iter().map(|&x| x as u32).collect();
-            (Some(mesh_flags(kind, n, &numbers)), 0)
+            Some(mesh_flags(kind, n, &numbers))
         }
-        Input::Bytes(data) => {
-            let reading = raw_reading(kind, case.layout, data);
-            let flags = is_patched(kind).then(|| mesh_flags(kind, n, &reading.numbers));
-            (flags, reading.end)
+        Input::Bytes(data) if is_patched(kind) => {
+            Some(mesh_flags(kind, n, &raw_reading(kind, case.layout, data)))
         }
+        _ => None,
     }
 }
-
-/// Names the end in a fault.
-pub const THE_END: &str = "the end of the stream";
 
 /// The first place at which ours isn't what it should be.
 #[derive(Debug)]
@@ -127,8 +106,8 @@ pub struct Fault {
     pub lent: Option<usize>,
 }
 
-fn answer_text(wrote: Result<usize, Refusal>) -> String {
-    match wrote {
+fn answer_text(answer: Answer) -> String {
+    match answer {
         Ok(count) => format!("accepted, {count}"),
         Err(refusal) => format!("refused {} ({refusal:?})", refusal.number()),
     }
@@ -145,23 +124,18 @@ impl Fault {
         }
     }
 
-    /// The fault of an answer that isn't the expected one.
     pub fn of_answer(expected: Answer, ours: Answer) -> Self {
-        if ours.wrote == expected.wrote {
-            let bit = |answer: Answer| format!("bit {}", answer.end);
-            return Fault::new(THE_END.into(), bit(expected), bit(ours)).after(ours);
-        }
         Fault::new(
             "the answer".into(),
-            answer_text(expected.wrote),
-            answer_text(ours.wrote),
+            answer_text(expected),
+            answer_text(ours),
         )
     }
 
     /// The fault of a call whose answer is right.
     pub fn after(self, answer: Answer) -> Self {
         Fault {
-            answer: Some(answer_text(answer.wrote)),
+            answer: Some(answer_text(answer)),
             ..self
         }
     }
@@ -217,7 +191,7 @@ pub fn check(
     lent: &mut Lent<f64>,
 ) -> Result<usize, Fault> {
     let whole = Whole {
-        answer: expected.answer(),
+        count: expected.count,
         numbers: &expected.rows,
     };
     let call = |out: &mut [f64]| library.mesh(reading, case, out);

@@ -36,7 +36,28 @@ fn mask(bit: usize) -> u8 {
 #[cfg(test)]
 mod tests {
     use super::*;
-    use crate::record::tests::{bytes, layout, ones};
+
+    fn layout(coordinate: usize, component: usize, flag: usize, components: usize) -> Layout {
+        Layout {
+            coordinate,
+            component,
+            flag,
+            components,
+        }
+    }
+
+    /// The bytes of bits that are written out; what isn't a bit parts them for the eye.
+    fn bytes(bits: &str) -> Vec<u8> {
+        let bits: Vec<u8> = bits.bytes().filter(|b| b"01".contains(b)).collect();
+        assert!(bits.len().is_multiple_of(8), "whole bytes");
+        let byte = |bits: &[u8]| bits.iter().fold(0, |byte, bit| 2 * byte + (bit - b'0'));
+        bits.chunks(8).map(byte).collect()
+    }
+
+    /// So many bits of a record that are to stay.
+    fn ones(count: usize) -> String {
+        "1".repeat(count)
+    }
 
     fn check_bits(kind: Kind, l: Layout, before: &str, after: &str) {
         assert_eq!(cleared(kind, l, &bytes(before)), bytes(after), "{before}");

@@ -1,5 +1,5 @@
-//! Directed cases: every width, every count of components, every Decode entry, every odd number at every place, flags above 3 of every width, whatever
-//! ends a stream, the limits of the input, and each reason for a writer to refuse.
+//! Directed cases: every width, every count of components, every Decode entry, every odd number at every place, flags above 3 of every width,
+//! the limits of the input, and each reason for a writer to refuse.
 
 use crate::case::{Case, Input, Origin, Room, MOST_BYTES, MOST_NUMBERS};
 use crate::draw;
@@ -25,7 +25,6 @@ pub fn jobs() -> Vec<Job> {
                 jobs.push(Box::new(move |bench| marked_flags(kind, flag, bench)));
             }
         }
-        jobs.push(Box::new(move |bench| ends(kind, bench)));
         jobs.push(Box::new(move |bench| component_counts(kind, bench)));
         jobs.push(Box::new(move |bench| decode_entries(kind, bench)));
         jobs.push(Box::new(move |bench| list_places(kind, bench)));
@@ -147,69 +146,6 @@ fn marked_flags(kind: Kind, flag: usize, bench: &mut Bench<'_>) {
                 layout,
                 task: Task::Read(data),
                 room: Room::EXACT,
-            });
-        }
-    }
-}
-
-/// Layouts for streams that end in every way, thin ones among them. Records end at bytes, a bit behind one and a bit before one.
-const ENDING: [(usize, usize, usize, usize); 8] = [
-    (1, 1, 1, 0),
-    (1, 1, 2, 0),
-    (1, 1, 3, 0),
-    (2, 1, 3, 1),
-    (1, 3, 9, 1),
-    (8, 8, 8, 1),
-    (5, 3, 7, 0),
-    (7, 1, 32, 0),
-];
-
-/// Flags that end a mesh at its beginning or after its first records, or drop their vertex there. Some have nothing to end.
-const ENDING_FLAGS: [&[u32]; 14] = [
-    &[],
-    &[1, 0],
-    &[3, 0],
-    &[4, 0],
-    &[0, 0],
-    &[0, 3],
-    &[0, 4, 0],
-    &[0, 5, 0],
-    &[0, 2, 4, 1],
-    &[0, 0, 0, 3],
-    &[0, 0, 0, 4],
-    &[0, 0, 0, 7, 1],
-    &[0, 1, 2, 3, 1],
-    &[0, 0, 0, 1, u32::MAX],
-];
-
-/// The streams of a layout with these flags, as far as they fit it; each is cut at every byte.
-fn ending_streams(kind: Kind, layout: Layout) -> impl Iterator<Item = Vec<u8>> {
-    let most = u32::MAX >> (32 - layout.flag);
-    ENDING_FLAGS.into_iter().flat_map(move |flags| {
-        let flags: Vec<u32> = flags.iter().map(|flag| flag & most).collect();
-        let numbers = records(kind, layout.components, &flags, scattered);
-        let data = packed(kind, layout, &numbers);
-        (0..=data.len()).map(move |cut| data[..cut].to_vec())
-    })
-}
-
-/// Streams that are told apart by their end: a flag that may come or not, a record that is whole or cut, a vertex that is dropped.
-fn ends(kind: Kind, bench: &mut Bench<'_>) {
-    for (coordinate, component, flag, components) in ENDING {
-        let layout = Layout {
-            coordinate,
-            component,
-            flag,
-            components,
-        };
-        let decode = vec![-1.0, 1.0, 0.1, 100.0, 0.25, 0.75];
-        for data in ending_streams(kind, layout) {
-            bench.mesh(&of_bytes(kind, layout, decode.clone(), data.clone()));
-            bench.raw(&RawCase {
-                kind,
-                layout,
-                task: Task::Read(data),
-                room: Room::Beyond(1),
             });
         }
     }
@@ -454,32 +390,6 @@ fn thin_writers(kind: Kind, bench: &mut Bench<'_>) {
 mod tests {
     use super::*;
     use crate::checks::Expected;
-    use crate::record::{low_flag_reading, raw_reading, record_bits};
-
-    #[test]
-    fn streams_that_are_told_apart_by_their_end_are_met() {
-        for kind in KINDS {
-            let (mut lacks_a_bit, mut ends_at_a_flag, mut parts) = (false, false, false);
-            for (coordinate, component, flag, components) in ENDING {
-                let layout = Layout {
-                    coordinate,
-                    component,
-                    flag,
-                    components,
-                };
-                let longest = record_bits(kind, layout, 0);
-                for data in ending_streams(kind, layout) {
-                    let end = raw_reading(kind, layout, &data).end;
-                    let left = 8 * data.len() - end;
-                    lacks_a_bit |= left + 1 == longest;
-                    ends_at_a_flag |= left >= longest;
-                    parts |= end < low_flag_reading(kind, layout, &data).end;
-                }
-            }
-            assert!(lacks_a_bit, "{kind:?}");
-            assert_eq!([ends_at_a_flag, parts], [is_patched(kind); 2], "{kind:?}");
-        }
-    }
 
     #[test]
     fn marked_flags_make_a_long_mesh_in_the_published_reading_alone() {

@@ -10,41 +10,8 @@ pub enum Reading {
     Published,
 }
 
-/// What a call answers. The crate panics where an end other than 0 is told beside a refusal, or a count other than 0 beside one that isn't ROOM, so that
-/// would be found as well.
-#[derive(Clone, Copy, Debug, PartialEq, Eq)]
-pub struct Answer {
-    /// How much was written, or the refusal.
-    pub wrote: Result<usize, Refusal>,
-    /// Where the stream ended: 0 for a refused call, and for one that reads no bytes.
-    pub end: usize,
-}
-
-impl From<Refusal> for Answer {
-    fn from(refusal: Refusal) -> Self {
-        Answer {
-            wrote: Err(refusal),
-            end: 0,
-        }
-    }
-}
-
-/// The answer of a call that reads no bytes.
-impl From<Result<usize, Refusal>> for Answer {
-    fn from(wrote: Result<usize, Refusal>) -> Self {
-        Answer { wrote, end: 0 }
-    }
-}
-
-/// The answer of a call that reads bytes.
-impl From<Result<station::Reading<usize>, Refusal>> for Answer {
-    fn from(told: Result<station::Reading<usize>, Refusal>) -> Self {
-        Answer {
-            wrote: told.map(|reading| reading.read),
-            end: told.map_or(0, |reading| reading.end),
-        }
-    }
-}
+/// What a call answers. The crate panics where a count other than 0 is told beside a refusal that isn't ROOM, so that would be found as well.
+pub type Answer = Result<usize, Refusal>;
 
 /// A library that answers the calls. The tests put a wrong one in place of the proved one.
 pub trait Library: Sync {
@@ -70,31 +37,31 @@ impl Library for Proved {
                     Reading::Ported => slices::parse,
                     Reading::Published => slices::published,
                 };
-                parse(case.kind, data, case.layout, &case.decode, out).into()
+                parse(case.kind, data, case.layout, &case.decode, out)
             }
             Input::List(values) => {
                 let build = match reading {
                     Reading::Ported => slices::build,
                     Reading::Published => slices::build_published,
                 };
-                build(case.kind, values, case.layout.components, out).into()
+                build(case.kind, values, case.layout.components, out)
             }
         }
     }
 
     fn raw_read(&self, kind: Kind, data: &[u8], l: Layout, out: &mut [u32]) -> Answer {
-        slices::raw_read(kind, data, l, out).into()
+        slices::raw_read(kind, data, l, out)
     }
 
     fn raw_write(&self, kind: Kind, list: &[u32], l: Layout, out: &mut [u8]) -> Answer {
-        slices::raw_write(kind, list, l, out).into()
+        slices::raw_write(kind, list, l, out)
     }
 
     fn coons_to_tensor_raw(&self, list: &[u32], components: usize, out: &mut [i64]) -> Answer {
-        slices::coons_to_tensor_raw(list, components, out).into()
+        slices::coons_to_tensor_raw(list, components, out)
     }
 
     fn coons_to_tensor(&self, values: &[f64], components: usize, out: &mut [f64]) -> Answer {
-        slices::coons_to_tensor(values, components, out).into()
+        slices::coons_to_tensor(values, components, out)
     }
 }

@@ -1,5 +1,5 @@
 //! The raw readers and writers: held against the original's bit reader, a packing of our own and document 01's table; what a writer accepts
-//! is read back, whole and cut. Bytes are also cut where their reading ends.
+//! is read back, whole and cut.
 
 use crate::asking::Whole;
 use crate::case::{
@@ -7,8 +7,8 @@ use crate::case::{
 };
 use crate::checks::Fault;
 use crate::lent::{first_other, Lent, Place};
-use crate::library::{Answer, Library};
-use crate::record::{breaks_a_rule, is_patched, packed, raw_reading, record_bits, RawReading};
+use crate::library::Library;
+use crate::record::{breaks_a_rule, is_patched, packed, raw_reading, record_bits};
 use crate::shrink::{smaller_layouts, smaller_lists, Shrinks};
 use station::{Kind, Layout, Refusal};
 use std::fmt;
@@ -81,30 +81,19 @@ impl RawCase {
         !matches!(self.room, Room::Short(_))
     }
 
-    /// Whether bytes are also cut where their reading ends. That takes two more calls, so only cases with more room than they need are.
-    fn is_cut(&self) -> bool {
-        matches!(self.room, Room::Beyond(1..))
-    }
-
     pub fn check(&self, library: &dyn Library, lent: &mut RawLent) -> Result<RawAgreed, Fault> {
         let (kind, l) = (self.kind, self.layout);
         let at_once = self.refused_at_once();
         let numbers = match &self.task {
             Task::Read(data) => {
                 let full = match at_once {
-                    Some(_) => RawReading::default(),
+                    Some(_) => Vec::new(),
                     None => raw_reading(kind, l, data),
                 };
                 let call = |out: &mut [u32]| library.raw_read(kind, data, l, out);
-                let check = |ours: &[u32]| check_places(&full.numbers, ours);
-                let whole = whole(at_once, &full.numbers, full.end);
-                whole.ask(self.room, &mut lent.numbers, call, check)?;
-                let cut = if at_once.is_none() && self.is_cut() {
-                    self.check_cut(data, &full, library, &mut lent.numbers)?
-                } else {
-                    0
-                };
-                full.numbers.len() + cut
+                let check = |ours: &[u32]| check_places(&full, ours);
+                whole(at_once, &full).ask(self.room, &mut lent.numbers, call, check)?;
+                full.len()
             }
             Task::Write(list) => {
                 let full = match at_once {
@@ -113,9 +102,9 @@ impl RawCase {
                 };
                 let call = |out: &mut [u8]| library.raw_write(kind, list, l, out);
                 let check = |ours: &[u8]| check_places(&full, ours);
-                whole(at_once, &full, 0).ask(self.room, &mut lent.bytes, call, check)?;
+                whole(at_once, &full).ask(self.room, &mut lent.bytes, call, check)?;
                 let read_back = if at_once.is_none() && self.is_read_back() {
-                    self.check_reading_back(list, &full, library, &mut lent.numbers)?
+                    check_reading_back(self, list, &full, library, &mut lent.numbers)?
                 } else {
                     0
                 };
@@ -127,94 +116,12 @@ impl RawCase {
             is_refused: at_once.is_some(),
         })
     }
-
-    /// Reads the written bytes, whole and cut: the list, and beginnings of it.
-    fn check_reading_back(
-        &self,
-        list: &[u32],
-        bytes: &[u8],
-        library: &dyn Library,
-        lent: &mut Lent<u32>,
-    ) -> Result<usize, Fault> {
-        let mut numbers = 0;
-        let step = match bytes.len() {
-            0..=CUT_EVERYWHERE => 1,
-            long => long / 8,
-        };
-        for cut in (0..=bytes.len()).rev().step_by(step) {
-            let kept = raw_reading(self.kind, self.layout, &bytes[..cut]);
-            let (is_whole, fill) = (cut == bytes.len(), 8 * cut - kept.end);
-            if !list.starts_with(&kept.numbers) || is_whole && kept.numbers != list {
-                return Err(Fault::new(
-                    format!("{cut} bytes read back by the original's bit reader"),
-                    "the list, or a beginning of it from cut bytes".into(),
-                    text(&kept.numbers, u32::to_string),
-                ));
-            }
-            if is_whole && fill >= 8 {
-                return Err(Fault::new(
-                    "the bits after the list, by the original's bit reader".into(),
-                    "under 8, to fill the last byte".into(),
-                    fill.to_string(),
-                ));
-            }
-            numbers += self.check_again(&bytes[..cut], &kept, library, lent)?;
-        }
-        Ok(numbers)
-    }
-
-    /// Reads only as many bytes as the end needs, which is the same reading, and one byte fewer, which ends earlier.
-    fn check_cut(
-        &self,
-        data: &[u8],
-        full: &RawReading,
-        library: &dyn Library,
-        lent: &mut Lent<u32>,
-    ) -> Result<usize, Fault> {
-        let needed = full.end.div_ceil(8);
-        let mut numbers = self.check_again(&data[..needed], full, library, lent)?;
-        if needed > 0 {
-            let cut = &data[..needed - 1];
-            let kept = raw_reading(self.kind, self.layout, cut);
-            if kept.end >= full.end {
-                return Err(Fault::new(
-                    format!("{} bytes read by the original's bit reader", cut.len()),
-                    format!("an end before bit {}", full.end),
-                    format!("bit {}", kept.end),
-                ));
-            }
-            numbers += self.check_again(cut, &kept, library, lent)?;
-        }
-        Ok(numbers)
-    }
-
-    /// Reads other bytes of the same layout. Readers are asked with every room elsewhere, so once is enough here.
-    fn check_again(
-        &self,
-        data: &[u8],
-        expected: &RawReading,
-        library: &dyn Library,
-        lent: &mut Lent<u32>,
-    ) -> Result<usize, Fault> {
-        let numbers = &expected.numbers;
-        let call = |out: &mut [u32]| library.raw_read(self.kind, data, self.layout, out);
-        whole(None, numbers, expected.end)
-            .ask_once(1, lent, call, |ours| check_places(numbers, ours))
-            .map_err(|fault| Fault {
-                place: format!("the first {} bytes: {}", data.len(), fault.place),
-                ..fault
-            })?;
-        Ok(numbers.len())
-    }
 }
 
-/// What a call should give: a refusal, or all of these numbers, with the end of the stream that they were read from.
-fn whole<T>(at_once: Option<Refusal>, full: &[T], end: usize) -> Whole<'_, T> {
+/// What a call should give: a refusal, or all of these numbers.
+fn whole<T>(at_once: Option<Refusal>, full: &[T]) -> Whole<'_, T> {
     Whole {
-        answer: Answer {
-            wrote: at_once.map_or(Ok(full.len()), Err),
-            end,
-        },
+        count: at_once.map_or(Ok(full.len()), Err),
         numbers: full,
     }
 }
@@ -228,6 +135,41 @@ fn check_places<T: Place>(full: &[T], ours: &[T]) -> Result<(), Fault> {
             Err(Fault::of_bits(place, full[i].bits(), ours[i].bits()))
         }
     }
+}
+
+/// Reads the written bytes, whole and cut: the list, and beginnings of it. Readers are asked with every room elsewhere, so once is enough here.
+fn check_reading_back(
+    case: &RawCase,
+    list: &[u32],
+    bytes: &[u8],
+    library: &dyn Library,
+    lent: &mut Lent<u32>,
+) -> Result<usize, Fault> {
+    let (kind, l) = (case.kind, case.layout);
+    let mut numbers = 0;
+    let step = match bytes.len() {
+        0..=CUT_EVERYWHERE => 1,
+        long => long / 8,
+    };
+    for cut in (0..=bytes.len()).rev().step_by(step) {
+        let kept = raw_reading(kind, l, &bytes[..cut]);
+        if !list.starts_with(&kept) || (cut == bytes.len() && kept != list) {
+            return Err(Fault::new(
+                format!("{cut} bytes read back by the original's bit reader"),
+                "the list, or a beginning of it from cut bytes".into(),
+                text(&kept, u32::to_string),
+            ));
+        }
+        let call = |out: &mut [u32]| library.raw_read(kind, &bytes[..cut], l, out);
+        whole(None, &kept)
+            .ask_once(1, lent, call, |ours| check_places(&kept, ours))
+            .map_err(|fault| Fault {
+                place: format!("{cut} bytes read back: {}", fault.place),
+                ..fault
+            })?;
+        numbers += kept.len();
+    }
+    Ok(numbers)
 }
 
 impl fmt::Display for RawCase {

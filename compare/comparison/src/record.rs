@@ -1,4 +1,4 @@
-//! The shape of each type's records, and the raw reading of bytes by the original's bit reader, with where it ends.
+//! The shape of each type's records, and the raw reading of bytes by the original's bit reader.
 
 use original::mesh_shading::BitReader;
 use station::{Kind, Layout};
@@ -42,48 +42,33 @@ fn patch_follows(flag: u32, is_first: bool) -> bool {
     flag == 0 || (flag <= 3 && !is_first)
 }
 
-/// What the complete records of bytes give.
-#[derive(Debug, Default, PartialEq)]
-pub struct RawReading {
-    /// Their numbers, with whole flags.
-    pub numbers: Vec<u32>,
-    /// The bit position after the last of them.
-    pub end: usize,
-}
-
-/// The complete records of bytes, as document 01 defines the raw reading.
-pub fn raw_reading(kind: Kind, l: Layout, data: &[u8]) -> RawReading {
+/// The raw numbers of the complete records of bytes, as document 01 defines the raw reading.
+pub fn raw_reading(kind: Kind, l: Layout, data: &[u8]) -> Vec<u32> {
     reading(kind, l, data, |flag| flag)
 }
 
 /// The same where the two low bits of a flag count. The flags are whole all the same.
-pub fn low_flag_reading(kind: Kind, l: Layout, data: &[u8]) -> RawReading {
+pub fn low_flag_reading(kind: Kind, l: Layout, data: &[u8]) -> Vec<u32> {
     reading(kind, l, data, |flag| flag % 4)
 }
 
-/// The complete records, given what counts of a flag.
-fn reading(kind: Kind, l: Layout, data: &[u8], counted: fn(u32) -> u32) -> RawReading {
+/// The raw numbers of complete records, given what counts of a flag.
+fn reading(kind: Kind, l: Layout, data: &[u8], counted: fn(u32) -> u32) -> Vec<u32> {
     let mut reader = BitReader::new(data);
-    let mut read = RawReading {
-        numbers: Vec::with_capacity(data.len()),
-        end: 0,
-    };
-    while let Some(bits) = append_record(kind, l, counted, &mut reader, &mut read.numbers) {
-        read.end += bits;
-    }
-    read
+    let mut numbers = Vec::new();
+    while append_record(kind, l, counted, &mut reader, &mut numbers).is_some() {}
+    numbers
 }
 
-/// Reads one record, and answers the bits that were read for it; at the end of the mesh it appends nothing.
+/// Reads one record; at the end of the mesh it appends nothing.
 fn append_record(
     kind: Kind,
     l: Layout,
     counted: fn(u32) -> u32,
     reader: &mut BitReader<'_>,
     numbers: &mut Vec<u32>,
-) -> Option<usize> {
+) -> Option<()> {
     let start = numbers.len();
-    let mut bits = 0;
     let mut flag = 0;
     if is_flagged(kind) {
         flag = reader.read(l.flag)?;
@@ -91,7 +76,6 @@ fn append_record(
             return None;
         }
         numbers.push(flag);
-        bits += l.flag;
     }
     let (coordinates, colours) = shape(kind, flag);
     for (width, count) in [
@@ -104,10 +88,9 @@ fn append_record(
                 return None;
             };
             numbers.push(number);
-            bits += width;
         }
     }
-    Some(bits)
+    Some(())
 }
 
 /// The flag of each triangle or patch that the numbers give, flags as whole numbers.
@@ -226,125 +209,5 @@ impl BitWriter {
             self.bytes.push((self.held << (8 - self.count)) as u8);
         }
         self.bytes
-    }
-}
-
-#[cfg(test)]
-pub mod tests {
-    use super::*;
-
-    pub fn layout(coordinate: usize, component: usize, flag: usize, components: usize) -> Layout {
-        Layout {
-            coordinate,
-            component,
-            flag,
-            components,
-        }
-    }
-
-    /// The bytes of bits that are written out; what isn't a bit parts them for the eye.
-    pub fn bytes(bits: &str) -> Vec<u8> {
-        let bits: Vec<u8> = bits.bytes().filter(|b| b"01".contains(b)).collect();
-        assert!(bits.len().is_multiple_of(8), "whole bytes");
-        let byte = |bits: &[u8]| bits.iter().fold(0, |byte, bit| 2 * byte + (bit - b'0'));
-        bits.chunks(8).map(byte).collect()
-    }
-
-    /// So many bits of a record, all of them ones.
-    pub fn ones(count: usize) -> String {
-        "1".repeat(count)
-    }
-
-    /// Where the reading ends by whole flags, and where it ends by their two low bits.
-    fn check_ends(kind: Kind, l: Layout, bits: &str, whole: usize, low: usize) {
-        let data = bytes(bits);
-        assert_eq!(raw_reading(kind, l, &data).end, whole, "{bits}");
-        assert_eq!(low_flag_reading(kind, l, &data).end, low, "{bits}");
-    }
-
-    #[test]
-    fn a_mesh_of_vertices_ends_after_the_last_whole_one() {
-        let l = layout(1, 1, 3, 0);
-        check_ends(Kind::Type4, l, "", 0, 0);
-        check_ends(Kind::Type4, l, "000 1 1  001", 5, 5);
-        // also one that gives no triangle
-        check_ends(Kind::Type4, l, "111 0 0  101 1 1  011 1 0  1", 15, 15);
-        check_ends(Kind::Type4, l, "001 1 1  111 1 1  000 0 0  0", 15, 15);
-        // the last vertex ends with its byte, or lacks one bit
-        let l = layout(2, 3, 4, 0);
-        check_ends(Kind::Type4, l, "0000 11 11  0011 01 10", 16, 16);
-        let l = layout(2, 3, 2, 1);
-        check_ends(Kind::Type4, l, "00 11 11 111  00 11 11 1", 9, 9);
-        check_ends(Kind::Type4, layout(8, 8, 9, 0), &ones(24), 0, 0);
-        // a lattice has no flags, and no width of them counts
-        for flag in [0, 1, 32] {
-            let l = layout(3, 5, flag, 1);
-            check_ends(Kind::Type5, l, "101 010 11111  00000", 11, 11);
-            let l = layout(1, 1, flag, 0);
-            check_ends(Kind::Type5, l, "10 01 11 00", 8, 8);
-        }
-    }
-
-    #[test]
-    fn a_mesh_of_patches_ends_after_the_last_whole_one() {
-        for (kind, first) in [(Kind::Type6, 24), (Kind::Type7, 32)] {
-            let l = layout(1, 1, 2, 0);
-            let (own, joined) = (ones(first), ones(first - 8));
-            let (one, two) = (2 + first, 2 + first + 2 + first - 8);
-            check_ends(kind, l, &format!("00{own} 010101"), one, one);
-            check_ends(kind, l, &format!("00{own} 01{joined} 0011"), two, two);
-            check_ends(kind, l, &format!("00{own} 11{joined} 1000"), two, two);
-            // the last number lacks one bit, and that of the second patch two
-            let l = layout(1, 2, 1, 2);
-            let (own, joined) = (ones(first + 16), ones(first));
-            let one = 1 + first + 16;
-            check_ends(kind, l, &format!("0{}", &own[1..]), 0, 0);
-            check_ends(kind, l, &format!("0{own} 1{}", &joined[2..]), one, one);
-            let two = one + 1 + first;
-            check_ends(kind, l, &format!("0{own} 1{joined} 100000"), two, two);
-        }
-    }
-
-    #[test]
-    fn a_flag_ends_it_before_the_flag() {
-        for (kind, first) in [(Kind::Type6, 24), (Kind::Type7, 32)] {
-            let l = layout(1, 1, 8, 0);
-            let (own, joined) = (ones(first), ones(first - 8));
-            let one = 8 + first;
-            // 4 and 132 are 0 by their low bits, 5 is 1, and 255 is 3
-            for flag in ["00000100", "10000100"] {
-                check_ends(kind, l, &format!("00000000{own} {flag}{own}"), one, 2 * one);
-                check_ends(kind, l, &format!("{flag}{own} 00000000{own}"), 0, 2 * one);
-                check_ends(kind, l, &format!("00000000{own} {flag}{joined}"), one, one);
-            }
-            for flag in ["00000101", "11111111"] {
-                let bits = format!("00000000{own} {flag}{joined} 00000001");
-                check_ends(kind, l, &bits, one, 2 * one - 8);
-                check_ends(kind, l, &format!("{flag}{own}"), 0, 0);
-            }
-            // the first patch can't be joined
-            for flag in ["00000001", "00000010", "00000011"] {
-                check_ends(kind, l, &format!("{flag}{own} 00000000{own}"), 0, 0);
-            }
-        }
-    }
-
-    #[test]
-    fn it_ends_after_the_bits_of_its_records() {
-        let l = layout(5, 3, 4, 2);
-        for kind in [Kind::Type4, Kind::Type5, Kind::Type6, Kind::Type7] {
-            let list = records(kind, 2, &[0, 1, 2, 3, 0], |place| place as u32 % 8);
-            let data = packed(kind, l, &list);
-            let bits: usize = [0, 1, 2, 3, 0]
-                .map(|flag| record_bits(kind, l, flag))
-                .iter()
-                .sum();
-            let expected = RawReading {
-                numbers: list,
-                end: bits,
-            };
-            assert_eq!(raw_reading(kind, l, &data), expected);
-            assert_eq!(low_flag_reading(kind, l, &data), expected);
-        }
     }
 }

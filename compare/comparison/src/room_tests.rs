@@ -1,11 +1,11 @@
-//! The comparison finds what is wrong about the room or the end of the stream, in each of the 26 functions.
+//! The comparison finds what is wrong about the room, in each of the 26 functions.
 
 use crate::case::{Case, Origin};
-use crate::checks::{check, Expected, Fault, THE_END};
+use crate::checks::{check, Expected, Fault};
 use crate::draw;
 use crate::lent::{Lent, Place};
 use crate::library::{Answer, Library, Proved, Reading};
-use crate::raw::{RawCase, RawLent, Task};
+use crate::raw::{RawCase, RawLent};
 use crate::report::KINDS;
 use crate::tensor::{TensorCase, TensorLent};
 use generator::Generator;
@@ -35,15 +35,9 @@ enum Planted {
     LastUnwritten,
     /// Another refusal has changed the last place that a patch of 32 components takes.
     OtherWritten,
-    /// The end is one bit too far, or always 0.
-    EndTooFar,
-    NoEnd,
-    /// ROOM tells the end all the same; another refusal tells one.
-    EndWithRoom,
-    EndWithOther,
 }
 
-const ALL: [Planted; 16] = [
+const ALL: [Planted; 12] = [
     Planted::OneTooFew,
     Planted::OneTooMany,
     Planted::CountForPlaces,
@@ -56,21 +50,17 @@ const ALL: [Planted; 16] = [
     Planted::LessWritten,
     Planted::LastUnwritten,
     Planted::OtherWritten,
-    Planted::EndTooFar,
-    Planted::NoEnd,
-    Planted::EndWithRoom,
-    Planted::EndWithOther,
 ];
 
 fn room(needed: usize) -> Answer {
-    Refusal::Room { needed }.into()
+    Err(Refusal::Room { needed })
 }
 
 impl Planted {
     /// What a function with this fault makes of the proved one's call.
     fn call<T: Place>(self, out: &mut [T], proved: impl Fn(&mut [T]) -> Answer) -> Answer {
         let lent = out.len();
-        let needed = match proved(&mut []).wrote {
+        let needed = match proved(&mut []) {
             Ok(_) => return proved(out),
             Err(Refusal::Room { needed }) => needed,
             Err(_) => {
@@ -81,8 +71,7 @@ impl Planted {
             }
         };
         let mut whole = vec![T::filler(0); needed];
-        let answer = proved(&mut whole);
-        let count = answer.wrote.expect("room enough");
+        let count = proved(&mut whole).expect("room enough");
         let is_short = lent < needed;
         match self {
             Planted::OneTooFew if is_short => room(needed - 1),
@@ -94,7 +83,7 @@ impl Planted {
             Planted::Missing if is_short => room(needed - lent),
             Planted::LessAccepted if lent + 1 == needed => {
                 out.copy_from_slice(&whole[..lent]);
-                answer
+                Ok(count)
             }
             Planted::ExactRefused if lent == needed => room(needed),
             Planted::LessWritten if is_short && lent > 0 => {
@@ -103,39 +92,20 @@ impl Planted {
             }
             Planted::LastUnwritten if lent == needed => {
                 out[..lent - 1].copy_from_slice(&whole[..lent - 1]);
-                answer
+                Ok(count)
             }
             _ => proved(out),
         }
-    }
-
-    /// The same of a function that reads bytes, which tells an end.
-    fn read<T: Place>(self, out: &mut [T], proved: impl Fn(&mut [T]) -> Answer) -> Answer {
-        let answer = self.call(out, &proved);
-        let end = match (self, answer.wrote) {
-            (Planted::EndTooFar, Ok(_)) => answer.end + 1,
-            (Planted::NoEnd, _) => 0,
-            (Planted::EndWithRoom, Err(Refusal::Room { needed })) => {
-                proved(&mut vec![T::filler(0); needed]).end
-            }
-            (Planted::EndWithOther, Err(Refusal::Layout | Refusal::Components)) => 1,
-            _ => answer.end,
-        };
-        Answer { end, ..answer }
     }
 }
 
 impl Library for Planted {
     fn mesh(&self, reading: Reading, case: &Case, out: &mut [f64]) -> Answer {
-        let proved = |out: &mut [f64]| Proved.mesh(reading, case, out);
-        match case.origin() {
-            Origin::Bytes => self.read(out, proved),
-            Origin::List => self.call(out, proved),
-        }
+        self.call(out, |out| Proved.mesh(reading, case, out))
     }
 
     fn raw_read(&self, kind: Kind, data: &[u8], l: Layout, out: &mut [u32]) -> Answer {
-        self.read(out, |out| Proved.raw_read(kind, data, l, out))
+        self.call(out, |out| Proved.raw_read(kind, data, l, out))
     }
 
     fn raw_write(&self, kind: Kind, list: &[u32], l: Layout, out: &mut [u8]) -> Answer {
@@ -170,24 +140,9 @@ impl Drawn {
         }
     }
 
-    /// Whether the function can't have this wrong.
-    fn is_without(&self, planted: Planted) -> bool {
-        match planted {
-            // it answers how many places it wrote
-            Planted::CountForPlaces => matches!(self, Drawn::Raw(_)),
-            Planted::EndTooFar | Planted::NoEnd | Planted::EndWithRoom | Planted::EndWithOther => {
-                !self.reads_bytes()
-            }
-            _ => false,
-        }
-    }
-
-    fn reads_bytes(&self) -> bool {
-        match self {
-            Drawn::Mesh(_, case) => case.origin() == Origin::Bytes,
-            Drawn::Raw(case) => matches!(case.task, Task::Read(_)),
-            Drawn::Tensor(_) => false,
-        }
+    /// Whether the function answers how many places it wrote.
+    fn counts_places(&self) -> bool {
+        matches!(self, Drawn::Raw(_))
     }
 }
 
@@ -230,8 +185,6 @@ fn functions() -> Vec<(String, Function)> {
 fn is_it(planted: Planted, fault: &Fault) -> bool {
     let lent = fault.lent.expect("how many places were lent");
     let is_answer = fault.place == "the answer";
-    let is_end = fault.place == THE_END;
-    let answer = fault.answer.as_deref().unwrap_or_default();
     let (is_room, ours_is_room) = (fault.expected.contains("Room"), fault.ours.contains("Room"));
     match planted {
         Planted::OneTooFew
@@ -251,9 +204,6 @@ fn is_it(planted: Planted, fault: &Fault) -> bool {
             !is_answer && !fault.place.contains("to be left") && fault.answer.is_some()
         }
         Planted::OtherWritten => fault.place == "place 191 of the output, to be left as it was",
-        Planted::EndTooFar | Planted::NoEnd => is_end && answer.starts_with("accepted"),
-        Planted::EndWithRoom => is_end && answer.contains("Room"),
-        Planted::EndWithOther => is_end && answer.starts_with("refused"),
     }
 }
 
@@ -264,12 +214,13 @@ fn what_is_planted_is_found_in_every_function() {
     for (name, function) in functions {
         for planted in ALL {
             let mut random = Generator::new(10);
-            let mut drawn = (0..500).map(|_| function(&mut random)).peekable();
-            if drawn.peek().is_some_and(|case| case.is_without(planted)) {
-                continue;
-            }
-            match drawn.find_map(|case| case.fault(&planted)) {
-                None => panic!("{planted:?} isn't found: {name}"),
+            let mut drawn = (0..500).map(|_| function(&mut random));
+            // where a count is one of places, that fault is none
+            let is_none = planted == Planted::CountForPlaces
+                && function(&mut Generator::new(10)).counts_places();
+            let fault = drawn.find_map(|case| case.fault(&planted));
+            match fault {
+                None => assert!(is_none, "{planted:?} isn't found: {name}"),
                 Some(fault) => assert!(is_it(planted, &fault), "{planted:?}, {name}:\n{fault}"),
             }
         }

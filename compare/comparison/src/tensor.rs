@@ -3,9 +3,9 @@
 
 use crate::asking::Whole;
 use crate::case::{hex, text, Case, Room, MOST_COMPONENTS, MOST_NUMBERS, MOST_RESHAPED};
-use crate::checks::{flags_and_end, Fault, SIDES};
+use crate::checks::{flags, Fault, SIDES};
 use crate::lent::{Lent, Place};
-use crate::library::{Answer, Library, Reading};
+use crate::library::{Library, Reading};
 use crate::record::{breaks_a_rule, shape, size};
 use crate::reshape::{without_a_component, without_a_record};
 use crate::shrink::{lower, smaller_lists, Shrinks};
@@ -211,9 +211,8 @@ impl TensorCase {
         for patch in &patches {
             raw_turned(patch, &mut full);
         }
-        let count = refusal.map_or(Ok(patches.len()), Err);
         let whole = Whole {
-            answer: count.into(),
+            count: refusal.map_or(Ok(patches.len()), Err),
             numbers: &full,
         };
         let call = |out: &mut [i64]| library.coons_to_tensor_raw(list, n, out);
@@ -221,7 +220,7 @@ impl TensorCase {
             check_raw_output(n, &patches, &full, ours)
         })?;
         Ok(TensorAgreed {
-            count,
+            count: whole.count,
             numbers: full.len(),
         })
     }
@@ -242,9 +241,8 @@ impl TensorCase {
         for row in &rows {
             row_turned(row, &mut full);
         }
-        let count = refusal.map_or(Ok(rows.len()), Err);
         let whole = Whole {
-            answer: count.into(),
+            count: refusal.map_or(Ok(rows.len()), Err),
             numbers: &full,
         };
         let call = |out: &mut [f64]| library.coons_to_tensor(values, n, out);
@@ -252,7 +250,7 @@ impl TensorCase {
             check_rows_output(n, &rows, &full, ours)
         })?;
         Ok(TensorAgreed {
-            count,
+            count: whole.count,
             numbers: full.len(),
         })
     }
@@ -266,22 +264,20 @@ impl TensorCase {
     ) -> Result<TensorAgreed, Fault> {
         let n = mesh.layout.components;
         let refusal = mesh.refused_at_once();
-        let (flags, end) = match refusal {
-            Some(_) => (None, 0),
-            None => flags_and_end(mesh),
+        let flags = match refusal {
+            Some(_) => Vec::new(),
+            None => flags(mesh).expect("patches have flags"),
         };
-        let flags = flags.unwrap_or_default();
         let room = flags.iter().map(|_| mesh.stride()).sum();
         let coons = &mut lent.coons;
         coons.prepare(&[], room);
         let answer = coons.lend(room, |out| library.mesh(Reading::Ported, mesh, out));
-        let wrote = refusal.map_or(Ok(flags.len()), Err);
-        let expected = Answer { wrote, end };
+        let expected = refusal.map_or(Ok(flags.len()), Err);
         if answer != expected {
-            let fault = Fault::of_answer(expected, answer).with(room);
+            let fault = Fault::of_answer(expected, answer);
             return Err(Fault {
-                place: format!("the reader, {}", fault.place),
-                ..fault
+                place: "the reader's answer".into(),
+                ..fault.with(room)
             });
         }
         let agreed = self.check_rows(n, coons.written(room), library, &mut lent.rows)?;

@@ -1,14 +1,12 @@
 //! The comparison finds wrong answers and shrinks them, and the cases drawn meet what they should.
 
-use crate::case::{plain, Case, Input, Origin, Room};
-use crate::checks::{check, Expected, Fault, THE_END};
+use crate::case::{Case, Input, Origin, Room};
+use crate::checks::{check, Expected, Fault};
 use crate::draw;
 use crate::lent::Lent;
 use crate::library::{Answer, Library, Proved, Reading};
 use crate::raw::{RawCase, RawLent, Task};
-use crate::record::{
-    is_flagged, is_patched, low_flag_reading, mesh_flags, raw_reading, record_bits, size,
-};
+use crate::record::{mesh_flags, raw_reading, size};
 use crate::report::{Bench, KINDS};
 use crate::shrink::shrink;
 use crate::tensor::{self, TensorCase, TensorLent};
@@ -22,9 +20,6 @@ type Spoil<T> = fn(Answer, &mut [T]) -> Answer;
 /// A mesh function in place of the proved ones.
 type Mesh = dyn Fn(Reading, &Case, &mut [f64]) -> Answer + Sync;
 
-/// The end that a wrong library tells of bytes, given the proved one's answer.
-type End = fn(Kind, Layout, &[u8], Answer) -> usize;
-
 /// Functions in place of the two that turn patches.
 type RawToTensor = fn(&[u32], usize, &mut [i64]) -> Answer;
 type ToTensor = fn(&[f64], usize, &mut [f64]) -> Answer;
@@ -33,7 +28,6 @@ type ToTensor = fn(&[f64], usize, &mut [f64]) -> Answer;
 struct Wrong {
     mesh: Box<Mesh>,
     read: Spoil<u32>,
-    raw_end: End,
     write: Spoil<u8>,
     raw_to_tensor: RawToTensor,
     to_tensor: ToTensor,
@@ -44,7 +38,6 @@ impl Wrong {
         Wrong {
             mesh: Box::new(mesh),
             read: |answer, _| answer,
-            raw_end: |_, _, _, answer| answer.end,
             write: |answer, _| answer,
             raw_to_tensor: |list, n, out| Proved.coons_to_tensor_raw(list, n, out),
             to_tensor: |values, n, out| Proved.coons_to_tensor(values, n, out),
@@ -53,24 +46,6 @@ impl Wrong {
 
     fn spoilt(spoil: Spoil<f64>) -> Self {
         Wrong::mesh(move |reading, case, out| spoil(Proved.mesh(reading, case, out), out))
-    }
-
-    /// A library that tells another end, wherever bytes are read.
-    fn ended(end: End) -> Self {
-        let mesh = move |reading: Reading, case: &Case, out: &mut [f64]| {
-            let answer = Proved.mesh(reading, case, out);
-            match &case.input {
-                Input::Bytes(data) => Answer {
-                    end: end(plain(case.kind), case.layout, data, answer),
-                    ..answer
-                },
-                Input::List(_) => answer,
-            }
-        };
-        Wrong {
-            raw_end: end,
-            ..Wrong::mesh(mesh)
-        }
     }
 
     fn read(read: Spoil<u32>) -> Self {
@@ -108,11 +83,7 @@ impl Library for Wrong {
     }
 
     fn raw_read(&self, kind: Kind, data: &[u8], l: Layout, out: &mut [u32]) -> Answer {
-        let answer = (self.read)(Proved.raw_read(kind, data, l, out), out);
-        Answer {
-            end: (self.raw_end)(kind, l, data, answer),
-            ..answer
-        }
+        (self.read)(Proved.raw_read(kind, data, l, out), out)
     }
 
     fn raw_write(&self, kind: Kind, list: &[u32], l: Layout, out: &mut [u8]) -> Answer {
@@ -198,7 +169,7 @@ fn a_number_changed_by_one_bit_is_found_and_shrunk() {
     ] {
         for (origin, least) in [(Origin::List, numbers), (Origin::Bytes, bytes)] {
             let (case, fault) = spoilt(kind, origin, |answer, out| {
-                if answer.wrote.is_ok_and(|count| count > 0) {
+                if answer.is_ok_and(|count| count > 0) {
                     turn_last_bit(&mut out[0]);
                 }
                 answer
@@ -215,9 +186,9 @@ fn a_number_changed_by_one_bit_is_found_and_shrunk() {
 fn a_count_off_by_one_is_found_and_shrunk() {
     for kind in KINDS {
         for origin in [Origin::Bytes, Origin::List] {
-            let (case, fault) = spoilt(kind, origin, |answer, _| Answer {
-                wrote: answer.wrote.map(|count| count.saturating_sub(1)),
-                ..answer
+            let (case, fault) = spoilt(kind, origin, |answer, _| match answer {
+                Ok(count) if count > 0 => Ok(count - 1),
+                other => other,
             });
             assert_eq!(fault.place, "the answer");
             assert!(length(&case) <= 33, "{case}{fault}");
@@ -229,7 +200,7 @@ fn a_count_off_by_one_is_found_and_shrunk() {
 fn a_number_written_beyond_is_found_and_shrunk() {
     for kind in KINDS {
         let (case, fault) = spoilt(kind, Origin::Bytes, |answer, out| {
-            if answer.wrote == Ok(0) {
+            if answer == Ok(0) {
                 out.last_mut().into_iter().for_each(turn_last_bit);
             }
             answer
@@ -243,15 +214,15 @@ fn a_number_written_beyond_is_found_and_shrunk() {
 #[test]
 fn a_refusal_that_writes_and_a_wrong_refusal_are_found() {
     let (case, fault) = spoilt(Kind::Type6, Origin::List, |answer, out| {
-        if answer.wrote.is_err() {
+        if answer.is_err() {
             out.first_mut().into_iter().for_each(turn_last_bit);
         }
         answer
     });
     assert!(fault.place.starts_with("place 0"), "{case}{fault}");
-    let (case, fault) = spoilt(Kind::Type7, Origin::Bytes, |answer, _| match answer.wrote {
-        Err(Refusal::Layout) => Refusal::Components.into(),
-        _ => answer,
+    let (case, fault) = spoilt(Kind::Type7, Origin::Bytes, |answer, _| match answer {
+        Err(Refusal::Layout) => Err(Refusal::Components),
+        other => other,
     });
     assert!(fault.expected.contains("Layout"), "{case}{fault}");
     assert_eq!(length(&case), 0, "{case}{fault}");
@@ -301,7 +272,7 @@ fn the_payload_of_a_computed_nan_does_not_count_but_where_it_is_taken_over() {
     assert!(fault_of(&case, Reading::Ported, &wrong).is_none());
     // only one that the second patch takes over
     let second = Wrong::spoilt(|answer, out| {
-        if answer.wrote == Ok(2) {
+        if answer == Ok(2) {
             turn_last_bit(&mut out[60]);
         }
         answer
@@ -310,7 +281,7 @@ fn the_payload_of_a_computed_nan_does_not_count_but_where_it_is_taken_over() {
     assert_eq!(fault.place, "row 1, point 0, x, taken over");
     // a number of its own
     let own = Wrong::spoilt(|answer, out| {
-        if answer.wrote == Ok(2) {
+        if answer == Ok(2) {
             turn_last_bit(&mut out[60 + 8]);
         }
         answer
@@ -391,8 +362,8 @@ fn flags_above_3_that_count_otherwise_are_found_and_shrunk() {
 fn a_fused_multiply_and_add_is_found_and_shrunk() {
     let fused = Wrong::mesh(|reading, case, out| {
         let answer = Proved.mesh(reading, case, out);
-        if let (Ok(1..), Input::Bytes(data)) = (answer.wrote, &case.input) {
-            let raw = raw_reading(Kind::Type5, case.layout, data).numbers[0];
+        if let (Ok(1..), Input::Bytes(data)) = (answer, &case.input) {
+            let raw = raw_reading(Kind::Type5, case.layout, data)[0];
             let (min, max) = (case.decode[0], case.decode[1]);
             let scale = (max - min) / ((1u64 << case.layout.coordinate) - 1) as f64;
             out[0] = f64::from(raw).mul_add(scale, min);
@@ -424,7 +395,7 @@ fn found_raw(kind: Kind, is_read: bool, wrong: &Wrong) -> (RawCase, Fault) {
 #[test]
 fn a_wrong_raw_number_is_found_and_shrunk() {
     let wrong = Wrong::read(|answer, out| {
-        if answer.wrote.is_ok() {
+        if answer.is_ok() {
             out.first_mut().into_iter().for_each(|x| *x ^= 1);
         }
         answer
@@ -436,21 +407,20 @@ fn a_wrong_raw_number_is_found_and_shrunk() {
         };
         assert!(data.len() <= bytes, "{case}{fault}");
         let (case, fault) = found_raw(kind, false, &wrong);
-        assert!(fault.place.starts_with("the first"), "{case}{fault}");
+        assert!(fault.place.contains("read back"), "{case}{fault}");
     }
 }
 
 #[test]
 fn a_wrong_fill_bit_and_a_byte_beyond_are_found() {
     let fill = Wrong::write(|answer, out| {
-        if let Ok(count @ 1..) = answer.wrote {
+        if let Ok(count @ 1..) = answer {
             out[count - 1] ^= 1;
         }
         answer
     });
     let beyond = Wrong::write(|answer, out| {
-        let written = answer.wrote.ok();
-        if let Some(byte) = written.and_then(|count| out.get_mut(count)) {
+        if let Some(byte) = answer.ok().and_then(|count| out.get_mut(count)) {
             *byte ^= 0x80;
         }
         answer
@@ -463,133 +433,6 @@ fn a_wrong_fill_bit_and_a_byte_beyond_are_found() {
             fault.place.ends_with("to be left as it was"),
             "{case}{fault}"
         );
-    }
-}
-
-/// The smallest cases whose end the library tells wrongly: of each reading, and of the raw one. Each with its bytes, its layout and the fault.
-fn found_ends(kind: Kind, wrong: &Wrong) -> Vec<(Vec<u8>, Layout, Fault)> {
-    let mut ends = Vec::new();
-    for reading in [Reading::Ported, Reading::Published] {
-        let (case, fault) = found(kind, Origin::Bytes, reading, wrong);
-        let Input::Bytes(data) = case.input else {
-            panic!("a case of bytes");
-        };
-        ends.push((data, case.layout, fault));
-    }
-    let (case, fault) = found_raw(kind, true, wrong);
-    let Task::Read(data) = case.task else {
-        panic!("a reader's case");
-    };
-    ends.push((data, case.layout, fault));
-    assert!(
-        ends.iter().all(|(.., fault)| fault.place == THE_END),
-        "{ends:?}"
-    );
-    ends
-}
-
-#[test]
-fn an_end_one_too_large_is_found_and_shrunk() {
-    let wrong = Wrong::ended(|_, _, _, answer| match answer.wrote {
-        Ok(_) => answer.end + 1,
-        Err(_) => 0,
-    });
-    for kind in KINDS {
-        for (data, _, fault) in found_ends(kind, &wrong) {
-            assert_eq!(data, [], "{fault}");
-            let told = (fault.expected.as_str(), fault.ours.as_str());
-            assert_eq!(told, ("bit 0", "bit 1"), "{fault}");
-        }
-        // what is written is read back
-        let (case, fault) = found_raw(kind, false, &wrong);
-        assert!(fault.place.ends_with(THE_END), "{case}{fault}");
-    }
-}
-
-#[test]
-fn an_end_beside_a_refusal_is_found_and_shrunk() {
-    let always = Wrong::ended(|_, _, _, answer| match answer.wrote {
-        Ok(_) => answer.end,
-        Err(_) => 8,
-    });
-    let where_it_reads = Wrong::ended(|kind, l, data, answer| match answer.wrote {
-        Err(Refusal::Room { .. }) => raw_reading(kind, l, data).end,
-        _ => answer.end,
-    });
-    for kind in KINDS {
-        for (data, _, fault) in found_ends(kind, &always) {
-            assert_eq!(fault.expected, "bit 0");
-            assert!(data.len() <= 5, "{data:?}\n{fault}");
-        }
-        for (_, _, fault) in found_ends(kind, &where_it_reads) {
-            assert_eq!(fault.expected, "bit 0");
-            let answer = fault.answer.as_deref().unwrap_or_default();
-            assert!(answer.contains("Room"), "{fault}");
-        }
-    }
-}
-
-#[test]
-fn an_end_after_the_next_flag_is_found_and_shrunk() {
-    let wrong = Wrong::ended(|kind, l, data, answer| {
-        let after = answer.end + if is_flagged(kind) { l.flag } else { 0 };
-        if answer.wrote.is_ok() && after <= 8 * data.len() {
-            after
-        } else {
-            answer.end
-        }
-    });
-    for kind in KINDS.into_iter().filter(|&kind| is_flagged(kind)) {
-        for (data, l, fault) in found_ends(kind, &wrong) {
-            assert_eq!(data.len(), 1, "{l:?}\n{fault}");
-        }
-    }
-}
-
-#[test]
-fn a_dropped_vertex_that_is_not_counted_is_found_and_shrunk() {
-    let wrong = Wrong::ended(|kind, l, data, answer| {
-        if kind != Kind::Type4 || answer.wrote.is_err() {
-            return answer.end;
-        }
-        let numbers = raw_reading(kind, l, data).numbers;
-        let vertices = numbers.chunks(size(kind, l.components, 0));
-        let is_kept = |vertex: &[u32]| vertex[0] < 3;
-        let kept = vertices.rev().skip_while(|vertex| !is_kept(vertex));
-        kept.count() * record_bits(kind, l, 0)
-    });
-    for (data, l, fault) in found_ends(Kind::Type4, &wrong) {
-        assert!(data.len() <= 2 && l.flag == 2, "{data:?}, {l:?}\n{fault}");
-    }
-}
-
-#[test]
-fn an_end_by_the_other_meaning_of_flags_is_found_and_shrunk() {
-    let ends: [(Reading, End); 2] = [
-        (Reading::Published, |kind, l, data, _| {
-            raw_reading(kind, l, data).end
-        }),
-        (Reading::Ported, |kind, l, data, _| {
-            low_flag_reading(kind, l, data).end
-        }),
-    ];
-    for (reading, end) in ends {
-        let wrong = Wrong::mesh(move |_, case, out| {
-            let answer = Proved.mesh(reading, case, out);
-            match (&case.input, answer.wrote) {
-                (Input::Bytes(data), Ok(_)) => Answer {
-                    end: end(plain(case.kind), case.layout, data, answer),
-                    ..answer
-                },
-                _ => answer,
-            }
-        });
-        // the smallest patch with a flag of three bits and other numbers of one
-        for (kind, bytes) in [(Kind::Type6, 4), (Kind::Type7, 5)] {
-            let (case, fault) = found(kind, Origin::Bytes, reading, &wrong);
-            assert_eq!(fault.place, THE_END, "{case}{fault}");
-            assert_eq!(length(&case), bytes, "{case}{fault}");
-        }
     }
 }
 
@@ -631,7 +474,7 @@ fn raw_patches_spoilt(
     spoil: fn(u32, &mut [i64]),
 ) -> Answer {
     let answer = Proved.coons_to_tensor_raw(list, components, out);
-    if answer.wrote.is_ok() {
+    if answer.is_ok() {
         let flags = mesh_flags(Kind::Type6, components, list);
         for (flag, patch) in flags.into_iter().zip(out.chunks_mut(32 + 4 * components)) {
             spoil(flag, patch);
@@ -713,7 +556,7 @@ fn a_flag_of_four_that_passes_is_found_and_shrunk() {
 fn a_patch_written_before_a_refusal_is_found() {
     let (case, fault) = found_raw_to_tensor(|list, n, out| {
         let answer = Proved.coons_to_tensor_raw(list, n, out);
-        if answer.wrote == Err(Refusal::Record) {
+        if answer == Err(Refusal::Record) {
             let first = list.len().min(size(Kind::Type6, n, 0));
             let _ = Proved.coons_to_tensor_raw(&list[..first], n, out);
         }
@@ -731,7 +574,7 @@ fn rows_otherwise(
     formula: fn([f64; 8]) -> f64,
 ) -> Answer {
     let answer = Proved.coons_to_tensor(values, components, out);
-    if answer.wrote.is_ok() {
+    if answer.is_ok() {
         for patch in out.chunks_exact_mut(32 + 4 * (8 + components)) {
             patch[24] = formula([0, 1, 11, 3, 9, 8, 4, 6].map(|point| patch[2 * point]));
         }
@@ -769,7 +612,7 @@ fn the_payload_of_a_nan_counts_where_it_is_copied() {
     // an inner coordinate is computed
     let computed = Wrong::to_tensor(|values, n, out| {
         let answer = Proved.coons_to_tensor(values, n, out);
-        if answer.wrote.is_ok() {
+        if answer.is_ok() {
             for patch in out.chunks_exact_mut(32 + 4 * (8 + n)) {
                 let inner = patch[24..32].iter_mut();
                 inner.filter(|x| x.is_nan()).for_each(turn_last_bit);
@@ -789,7 +632,7 @@ fn a_shared_side_of_a_mesh_that_was_read_is_looked_at() {
     // a reader whose second patch begins elsewhere than the first one's side: the turned patches show it
     let wrong = Wrong::mesh(|reading, case, out| {
         let answer = Proved.mesh(reading, case, out);
-        if answer.wrote.is_ok_and(|count| count > 1) {
+        if answer.is_ok_and(|count| count > 1) {
             turn_last_bit(&mut out[case.stride()]);
         }
         answer
@@ -801,10 +644,7 @@ fn a_shared_side_of_a_mesh_that_was_read_is_looked_at() {
 
 #[test]
 fn the_report_tells_of_a_disagreement() {
-    let wrong = Wrong::spoilt(|answer, _| Answer {
-        wrote: answer.wrote.map(|count| count + 1),
-        ..answer
-    });
+    let wrong = Wrong::spoilt(|answer, _| answer.map(|count| count + 1));
     let mut bench = Bench::new(&wrong);
     let mut random = Generator::new(5);
     while bench.report.disagreements() == 0 {
@@ -814,24 +654,6 @@ fn the_report_tells_of_a_disagreement() {
     let text = bench.report.to_string();
     assert!(text.contains("list:   [], 0 in all"), "{text}");
     assert!(text.contains("ours:     accepted, 1"), "{text}");
-}
-
-#[test]
-fn the_report_tells_of_an_end() {
-    let wrong = Wrong::ended(|_, _, _, answer| answer.end + 1);
-    let mut bench = Bench::new(&wrong);
-    let mut random = Generator::new(5);
-    while bench.report.disagreements() == 0 {
-        bench.raw(&draw::raw_read(Kind::Type6, &mut random));
-    }
-    let text = bench.report.to_string();
-    for line in [
-        "first difference: the end of the stream",
-        "expected: bit 0",
-        "ours:     bit 1",
-    ] {
-        assert!(text.contains(line), "{text}");
-    }
 }
 
 #[test]
@@ -870,68 +692,6 @@ fn the_cases_drawn_meet_flags_above_3_of_every_width() {
             }
         }
         assert!(widths.into_iter().eq(3..=32), "{kind:?}");
-    }
-}
-
-/// What ends the reading of bytes, given its end and what counts of a flag.
-fn ending(kind: Kind, l: Layout, data: &[u8], end: usize, counted: fn(u32) -> u32) -> &'static str {
-    let left = 8 * data.len() - end;
-    if left < 8 {
-        return "nothing but fill";
-    }
-    if !is_patched(kind) {
-        return "a vertex that is cut";
-    }
-    if left < l.flag {
-        return "a flag that is cut";
-    }
-    let bit = |place: usize| u32::from(data[place / 8] >> (7 - place % 8) & 1);
-    let flag = (end..end + l.flag).fold(0, |flag, place| flag << 1 | bit(place));
-    match counted(flag) {
-        0 => "a patch that is cut",
-        1..=3 if end == 0 => "a first flag that joins",
-        1..=3 => "a joined patch that is cut",
-        _ => "a flag above 3",
-    }
-}
-
-#[test]
-fn the_cases_drawn_meet_everything_that_ends_a_stream() {
-    let mut random = Generator::new(13);
-    for kind in KINDS {
-        let (mut ported, mut published) = (BTreeSet::new(), BTreeSet::new());
-        for _ in 0..3_000 {
-            let case = draw::case(kind, Origin::Bytes, &mut random);
-            let Input::Bytes(data) = &case.input else {
-                panic!("a case of bytes");
-            };
-            for (reading, endings, counted) in [
-                (Reading::Ported, &mut ported, (|x| x) as fn(u32) -> u32),
-                (Reading::Published, &mut published, |x| x % 4),
-            ] {
-                let expected = Expected::of(&case, reading);
-                assert!(expected.end <= 8 * data.len(), "{case}");
-                if expected.count.is_ok() {
-                    endings.insert(ending(kind, case.layout, data, expected.end, counted));
-                }
-            }
-        }
-        let expected = match kind {
-            Kind::Type4 | Kind::Type5 => vec!["a vertex that is cut", "nothing but fill"],
-            Kind::Type6 | Kind::Type7 => vec![
-                "a first flag that joins",
-                "a flag above 3",
-                "a flag that is cut",
-                "a joined patch that is cut",
-                "a patch that is cut",
-                "nothing but fill",
-            ],
-        };
-        assert!(ported.iter().eq(&expected), "{kind:?}: {ported:?}");
-        let low = expected
-            .iter()
-            .filter(|&&ending| ending != "a flag above 3");
-        assert!(published.iter().eq(low), "{kind:?}: {published:?}");
     }
 }
 

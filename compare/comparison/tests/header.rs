@@ -1,5 +1,5 @@
-//! The C header says what the library exports: each function's name, what it answers, and each parameter's name, type and place. Of a refusal the header,
-//! the README and the Rust crate tell the same.
+//! The C header says what the library exports: each function's name, and each parameter's name, type and place. Of a refusal the header, the README and
+//! the Rust crate tell the same.
 
 use station::Refusal;
 use std::path::Path;
@@ -11,38 +11,10 @@ fn read(file: &str) -> String {
     std::fs::read_to_string(&path).unwrap_or_else(|e| panic!("{}: {e}", path.display()))
 }
 
-/// The fields of a struct, given the line that it begins with, and what stands before and after the name of each.
-fn fields<'a>(text: &'a str, first: &str, before: &str, after: &str) -> Vec<&'a str> {
-    let lines = text.lines().skip_while(|&line| line != first).skip(1);
-    lines
-        .take_while(|line| !line.starts_with('}'))
-        .map(|line| {
-            let field = line.trim().strip_prefix(before);
-            let name = field.and_then(|field| field.strip_suffix(after));
-            name.unwrap_or_else(|| panic!("{first} has another field: {line}"))
-        })
-        .collect()
-}
-
-/// What C calls an answer of the library: the struct with the same fields in the same order, each a number of 64 bits.
-fn c_answer(name: &str) -> &'static str {
-    let (library, header) = (read("crates/answers/src/lib.rt"), read("include/station.h"));
-    let first = format!("pub struct {name} {{");
-    let ours = fields(&library, &first, "pub ", ": usize,");
-    assert!(!ours.is_empty(), "{first} is missing");
-    let is_same = |c_name: &&str| {
-        let first = format!("typedef struct {c_name} {{");
-        fields(&header, &first, "uint64_t ", ";") == ours
-    };
-    let mut c_names = ["mesh_answer", "mesh_reading"].into_iter();
-    c_names.find(is_same).expect("a struct of these fields")
-}
-
-/// The prototype that C needs for an exported function, written `fn NAME(NAME: TYPE, .., ) -> ANSWER` in the library.
+/// The prototype that C needs for an exported function, written `fn NAME(NAME: TYPE, .., )` in the library.
 fn prototype(function: &str) -> String {
     let (name, rest) = function.split_once('(').expect("parameters");
-    let (parameters, rest) = rest.split_once(") -> ").expect("an answer");
-    let answer = rest.split_whitespace().next().expect("its name");
+    let (parameters, _) = rest.split_once(')').expect("an end of the parameters");
     let parameters: Vec<String> = parameters
         .split(',')
         .map(str::trim)
@@ -62,18 +34,18 @@ fn prototype(function: &str) -> String {
             }
         })
         .collect();
-    format!("{} {name}({});", c_answer(answer), parameters.join(", "))
+    format!("mesh_answer {name}({});", parameters.join(", "))
 }
 
-/// The prototypes of a header, each on one line: they alone begin a line with a name of ours.
+/// The prototypes of a header, each on one line.
 fn declared(header: &str) -> Vec<String> {
     header
-        .split("\nmesh_")
+        .split("mesh_answer mesh_")
         .skip(1)
         .map(|rest| {
             let text = &rest[..=rest.find(';').expect("an end")];
             let words: Vec<&str> = text.split_whitespace().collect();
-            format!("mesh_{}", words.join(" "))
+            format!("mesh_answer mesh_{}", words.join(" "))
         })
         .collect()
 }
@@ -87,20 +59,6 @@ fn the_header_declares_what_is_exported() {
         .collect();
     assert_eq!(exported.len(), 26);
     assert_eq!(declared(&read("include/station.h")), exported);
-}
-
-#[test]
-fn the_readers_of_bytes_tell_where_the_stream_ended() {
-    for prototype in declared(&read("include/station.h")) {
-        let (answer, rest) = prototype.split_once(' ').expect("an answer");
-        let reads_bytes = rest.contains("(const uint8_t *data, ");
-        let expected = if reads_bytes {
-            "mesh_reading"
-        } else {
-            "mesh_answer"
-        };
-        assert_eq!(answer, expected, "{prototype}");
-    }
 }
 
 /// Each refusal with what the crate tells of it, but for its number and name.

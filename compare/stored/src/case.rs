@@ -1,6 +1,5 @@
 //! A stored case: a call, its answer by the original and document 01's refusals, and its bytes in the file.
 
-use crate::end::end;
 use rows::{Call, Kind, Source};
 
 /// The number that fills the lent output beforehand.
@@ -38,8 +37,6 @@ pub struct Answer {
     pub refused: u8,
     /// How many triangles or patches were written; for a refusal with ROOM, how many numbers are needed; for any other, 0.
     pub count: usize,
-    /// The bit position after the last complete record; for a refusal and for a list, 0.
-    pub end: usize,
     pub output: Vec<f64>,
 }
 
@@ -130,7 +127,6 @@ impl Case {
         let refusal = |refused: u8, count: usize, output: Vec<f64>| Answer {
             refused,
             count,
-            end: 0,
             output,
         };
         if let Some(refused) = self.refused_at_once() {
@@ -141,14 +137,9 @@ impl Case {
             return refusal(4, numbers.len(), output);
         }
         output[..numbers.len()].copy_from_slice(&numbers);
-        let end = match &self.input {
-            Input::Bytes(data) => end(self, data),
-            Input::List(_) => 0,
-        };
         Answer {
             refused: 0,
             count,
-            end,
             output,
         }
     }
@@ -178,7 +169,6 @@ impl Case {
         bytes.extend(two_bytes(self.room));
         bytes.push(answer.refused);
         bytes.extend(two_bytes(answer.count));
-        bytes.extend(two_bytes(answer.end));
         bytes.extend(first.to_be_bytes());
         bytes.extend(second.to_be_bytes());
         bytes.extend(numbers(&self.decode));

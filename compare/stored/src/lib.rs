@@ -2,9 +2,8 @@
 //! The files' format stands at the top of `crates/replay/src/main.rt`. `cargo run --release -p stored` writes the files anew;
 //! a test holds them to the rules here.
 //!
-//! The original has no refusals, lends no output and doesn't tell where a stream ends. So the refusals are worked out from document 01's
-//! table, in its order, the original's numbers are laid into an output that a filler was written to before, and its bit reader walks over
-//! the records once more.
+//! The original has no refusals and lends no output. So the refusals are worked out from document 01's table, in its order, and
+//! the original's numbers are laid into an output that a filler was written to before.
 //!
 //! The rules of a function's file, `read-type4` to `build-type7`:
 //! - SplitMix64 from `SEED` and the function's number draws everything that is not fixed here, so the same bytes come every time.
@@ -17,13 +16,11 @@
 //!   place less, or far less; with less, the count is that of the numbers needed.
 //! - A case that needs more than 4,056 numbers is drawn again.
 //!
-//! `one-wrong` has a case of each function, and in one of them a number of the answer differs in its last bit. `wrong-end` has two cases,
-//! and the end of the second is a bit too far. `cut` ends inside its third case. `unknown` has a function in its second case that there is
-//! none of.
+//! `one-wrong` has a case of each function, and in one of them a number of the answer differs in its last bit. `cut` ends inside its
+//! third case. `unknown` has a function in its second case that there is none of.
 
 pub mod case;
 mod draw;
-mod end;
 
 use case::Case;
 use generator::Generator;
@@ -71,7 +68,6 @@ pub fn files() -> Vec<(&'static str, Vec<u8>)> {
         full.extend(cases.into_iter().find(|case| case.answer().written() > 1));
     }
     files.push(("one-wrong", one_wrong(&full)));
-    files.push(("wrong-end", wrong_end(&full)));
     files.push(("cut", cut(&full)));
     files.push(("unknown", unknown(&full)));
     files
@@ -94,14 +90,6 @@ fn one_wrong(full: &[Case]) -> Vec<u8> {
     assert!(!answer.output[last].is_nan());
     bytes.extend(full[5].stored(&answer));
     bytes.extend(joined(&full[6..]));
-    bytes
-}
-
-fn wrong_end(full: &[Case]) -> Vec<u8> {
-    let mut bytes = stored(&full[0]);
-    let mut answer = full[1].answer();
-    answer.end += 1;
-    bytes.extend(full[1].stored(&answer));
     bytes
 }
 

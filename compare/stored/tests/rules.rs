@@ -82,54 +82,6 @@ fn a_refusal_tells_the_numbers_needed_for_room_alone() {
 }
 
 #[test]
-fn an_end_is_told_of_bytes_that_are_accepted_alone() {
-    for (name, kind, is_listed) in FUNCTIONS {
-        for case in cases(kind, is_listed) {
-            let answer = case.answer();
-            match &case.input {
-                Input::Bytes(data) if answer.refused == 0 => {
-                    assert!(answer.end <= 8 * data.len(), "{name}");
-                }
-                _ => assert_eq!(answer.end, 0, "{name}"),
-            }
-        }
-    }
-}
-
-/// The flag at this bit, if it is all there.
-fn flag_at(data: &[u8], place: usize, width: usize) -> Option<u64> {
-    let bit = |at: usize| Some(u64::from(data.get(at / 8)? >> (7 - at % 8) & 1));
-    (place..place + width).try_fold(0, |flag, at| Some(2 * flag + bit(at)?))
-}
-
-#[test]
-fn everything_that_ends_a_stream_is_met() {
-    for (name, kind, _) in FUNCTIONS.into_iter().filter(|(.., is_listed)| !is_listed) {
-        let mut endings = BTreeSet::new();
-        for case in cases(kind, false) {
-            let (answer, Input::Bytes(data)) = (case.answer(), &case.input) else {
-                panic!("a case of bytes");
-            };
-            if answer.refused != 0 {
-                continue;
-            }
-            let flag = flag_at(data, answer.end, case.flag.into());
-            endings.insert(match flag {
-                _ if 8 * data.len() - answer.end < 8 => "nothing but fill",
-                _ if kind < 6 => "a vertex that is cut",
-                None => "a flag that is cut",
-                Some(0) => "a patch that is cut",
-                Some(1..=3) if answer.end == 0 => "a first flag that joins",
-                Some(1..=3) => "a joined patch that is cut",
-                Some(_) => "a flag above 3",
-            });
-        }
-        let expected = if kind < 6 { 2 } else { 6 };
-        assert_eq!(endings.len(), expected, "{name}: {endings:?}");
-    }
-}
-
-#[test]
 fn odd_numbers_are_met() {
     for (name, kind, is_listed) in FUNCTIONS {
         let mut numbers = Vec::new();

@@ -1,4 +1,3 @@
 pub mod Outcomes
 pub mod OneOutcome
 pub mod Asking
-pub mod ReadOutcomes

@@ -5,9 +5,6 @@ use Rattle.answers.specs.declared.Refusal.TheVariants.{Layout, Components, Lengt
 use Rattle.answers.specs.declared.Answer.{Answer}
 use Rattle.answers.specs.declared.Answer.TheVariants.{Wrote, Refused}
 use Rattle.answers.specs.declared.Told.{Told}
-use Rattle.answers.specs.declared.Reading.{Reading}
-use Rattle.answers.specs.declared.Reading.TheVariants as Reading
-use Rattle.answers.specs.declared.ToldReading.{ToldReading}
 
 -- the refusal table
 abbrev pub number_of : Refusal → ℕ
@@ -66,30 +63,3 @@ pub record Tells {A : Type 0} (o : Outcome A) (entry : List A) (t : Told) (exit 
 -- the call has answered what the outcome tells, by the answer's numbers
 abbrev pub Done : {A : Type 0} → Outcome A → List A → Answer → List A → Type 0
 Done o entry r exit = Tells o entry (told r) exit
-
--- ---- a reading of bytes
-
--- an accepted reading answers where its last complete record ended, too; with a refusal there is no such place, and 0 is told
-abbrev pub told_reading : Reading → ToldReading
-told_reading (Reading.Read n end) = record { refused = 0; count = n; end = end.0 }
-told_reading (Reading.Refused r) = record { refused = number_of r; count = needed_by r; end = 0 }
-
--- what a reader of bytes comes to: an outcome, and the IsBit position after the last complete record
-pub record ReadOutcome (A : Type 0) : Type 0 where
-  pub outcome : Outcome A
-  pub end : ℕ
-
-module _ {A : Type 0} where
-  -- the one answer, by its numbers
-  abbrev pub tells_end : Outcome A → ℕ → ToldReading
-  tells_end (refused r) end = told_reading (Reading.Refused r)
-  tells_end (wrote count xs) end = told_reading (Reading.Read count (record { 0 = end }))
-
--- the three numbers are the outcome's, and the output holds what the outcome leaves
-pub record TellsReading {A : Type 0} (o : ReadOutcome A) (entry : List A) (t : ToldReading) (exit : List A) : Type 0 where
-  pub answered : t ≡ tells_end o.outcome o.end
-  pub held : exit ≡ leaves o.outcome entry
-
--- the reading has answered what the outcome tells, by the answer's numbers
-abbrev pub DoneReading : {A : Type 0} → ReadOutcome A → List A → Reading → List A → Type 0
-DoneReading o entry r exit = TellsReading o entry (told_reading r) exit

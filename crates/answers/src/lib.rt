@@ -1,9 +1,6 @@
 // How a call answers: what it wrote, or why it refused.
 ghost use Rattle.std.specs.Prelude.{◌≡◌};
-ghost use Rattle.answers.specs.Outcome.{number_of, needed_by, told, told_reading};
-ghost use Rattle.answers.specs.Inner.Ends.{ended_at, without_end};
-
-use bits::BitPos;
+ghost use Rattle.answers.specs.Outcome.{number_of, needed_by, told};
 
 // The limits of document 01. COMPONENTS: more components than these; LENGTH: more bytes, or more numbers of a list.
 pub const MOST_COMPONENTS: usize = 32;
@@ -31,29 +28,12 @@ pub enum Answer {
     Refused(Refusal),
 }
 
-// What a reader of bytes answers: how many triangles, patches or raw numbers it wrote, and the IsBit position after the last complete record; or the
-// refusal.
-#[derive(Drop)]
-pub enum Reading {
-    Read(usize, BitPos),
-    Refused(Refusal),
-}
-
 // An answer as two numbers: a refusal's number or 0, and the count. With ROOM the count is how many places the answer needs, with any other refusal 0.
 #[repr(C)]
 #[derive(Drop)]
 pub struct Told {
     pub refused: usize,
     pub count: usize,
-}
-
-// A reading as three numbers: an answer's two, and the IsBit position; with a refusal that is 0.
-#[repr(C)]
-#[derive(Drop)]
-pub struct ToldReading {
-    pub refused: usize,
-    pub count: usize,
-    pub end: usize,
 }
 
 // Document 01's number of a refusal.
@@ -95,42 +75,5 @@ pub fn tell(answer: Answer) -> Told
             refused: refusal_number(refusal),
             count: places_needed(refusal),
         },
-    }
-}
-
-pub fn tell_reading(reading: Reading) -> ToldReading
-    ensures { result ≡ told_reading reading }
-{
-    match reading {
-        Reading::Read(count, end) => ToldReading {
-            refused: 0,
-            count,
-            end: end.0,
-        },
-        Reading::Refused(refusal) => ToldReading {
-            refused: refusal_number(refusal),
-            count: places_needed(refusal),
-            end: 0,
-        },
-    }
-}
-
-// The reading of an answer, where the last complete record ends at a place.
-pub fn ended(answer: Answer, end: BitPos) -> Reading
-    ensures { result ≡ ended_at answer end }
-{
-    match answer {
-        Answer::Wrote(count) => Reading::Read(count, end),
-        Answer::Refused(refusal) => Reading::Refused(refusal),
-    }
-}
-
-// The answer of a reading, without the place.
-pub fn answer_of(reading: Reading) -> Answer
-    ensures { result ≡ without_end reading }
-{
-    match reading {
-        Reading::Read(count, _) => Answer::Wrote(count),
-        Reading::Refused(refusal) => Answer::Refused(refusal),
     }
 }

@@ -1,18 +1,17 @@
 -- What `read_at` is, case by case, and what a caller learns from an answer. Assumes nothing.
-use Prim.Native.Nat.{ℕ, ◌+◌, ◌-◌, ◌*◌, ◌^◌, ◌≤◌, ◌<◌}
+use Prim.Native.Nat.{ℕ, ◌+◌, ◌*◌, ◌^◌, ◌≤◌, ◌<◌}
 use mathlib.Core.Path.{◌≡◌, refl, sym, ap, ◌∙◌}
-use mathlib.Core.Bool.{Bool, true, false, ◌&&◌, cond}
+use mathlib.Core.Bool.{Bool, true, false, ◌&&◌}
 use mathlib.Core.List.{List}
 use native.Mathlib.Nat.{lt_of_not-le}
 use native.Mathlib.Decide.{dec_le}
 use native.Mathlib.Omega.{arith}
 use lib.ListN.{length}
-use lib.Dec.{eqb, leb}
 use borrow.Author.Tests.{eq-eqb, ne_eqb, lt-ltb, le-ltb, le-leb, lt-leb}
 use Rattle.bits.specs.declared.BitPos.{BitPos}
 use Rattle.bits.specs.declared.BitRead.TheVariants.{Number, End}
 use Rattle.bits.specs.Bits.{field_at}
-use Rattle.bits.specs.Reading.{exist, left_at, read_at}
+use Rattle.bits.specs.Reading.{read_at}
 use Rattle.bits.proofs.Streams.{field_below}
 
 and-false : (b : Bool) → b && false ≡ false
@@ -24,15 +23,15 @@ module _ (s : List ℕ) (p n : ℕ) where
   unfolding read_at
   answer_none z = simp (eq-eqb n 0 z)
 
-  pub answer_wide : 32 < n → End (left_at s p) ≡ read_at s p n
+  pub answer_wide : 32 < n → End ≡ read_at s p n
   unfolding read_at
   answer_wide h = simp (ne_eqb n 0 (λ (z : n ≡ 0). omega arith), lt-leb n 32 h)
 
-  pub answer_short : 1 ≤ n → 8 * length s < p + n → End (left_at s p) ≡ read_at s p n
+  pub answer_short : 1 ≤ n → 8 * length s < p + n → End ≡ read_at s p n
   unfolding read_at
   answer_short nz h = simp (ne_eqb n 0 (λ (z : n ≡ 0). omega arith), lt-leb (p + n) (8 * length s) h, and-false)
 
-  pub answer_unplaced : 1 ≤ n → 2 ^ 64 ≤ p + n → End (left_at s p) ≡ read_at s p n
+  pub answer_unplaced : 1 ≤ n → 2 ^ 64 ≤ p + n → End ≡ read_at s p n
   unfolding read_at
   answer_unplaced nz h = simp (ne_eqb n 0 (λ (z : n ≡ 0). omega arith), le-ltb (p + n) (2 ^ 64) h, and-false)
 
@@ -54,7 +53,7 @@ module _ (s : List ℕ) (p n : ℕ) (nz : 1 ≤ n) where
   pub found : (v : ℕ) (q : BitPos) → Number v q ≡ read_at s p n → Found s p n v q
   found v q e = by_wide (dec_le n 32)
     where
-      never : Number v q ≡ End (left_at s p) → Found s p n v q
+      never : Number v q ≡ End → Found s p n v q
       never z = let y : ◌≡◌ {A = ℕ} 0 1 = cc in absurd (omega arith)
 
       by_place : n ≤ 32 → p + n ≤ 8 * length s → Dec (2 ^ 64 ≤ p + n) → Found s p n v q
@@ -74,36 +73,11 @@ module _ (s : List ℕ) (p n : ℕ) (nz : 1 ≤ n) where
       by_wide (no w) = never (e ∙ sym (answer_wide s p n (lt_of_not-le w)))
 
   -- what the end says, of a slice short enough for its bits to be counted in a usize
-  pub ended : n ≤ 32 → length s < 2 ^ 61 → {l : ℕ} → End l ≡ read_at s p n → 8 * length s < p + n
-  ended w small {l} e = by_whole (dec_le (p + n) (8 * length s))
+  pub ended : n ≤ 32 → length s < 2 ^ 61 → End ≡ read_at s p n → 8 * length s < p + n
+  ended w small e = by_whole (dec_le (p + n) (8 * length s))
     where
       by_whole : Dec (p + n ≤ 8 * length s) → 8 * length s < p + n
       by_whole (no h) = lt_of_not-le h
       by_whole (yes h) =
-          let f : End l ≡ Number (field_at s p n) (record { 0 = p + n }) = e ∙ sym (answer_number s p n nz w h (omega arith)) in
+          let f : End ≡ Number (field_at s p n) (record { 0 = p + n }) = e ∙ sym (answer_number s p n nz w h (omega arith)) in
           let y : ◌≡◌ {A = ℕ} 0 1 = cc f in omega arith
-
-  -- then fewer are left than were asked for
-  pub left_short : n ≤ 32 → length s < 2 ^ 61 → {l : ℕ} → End l ≡ read_at s p n → left_at s p < n
-  left_short w small e = simp (lt-ltb (length s) (2 ^ 61) small) (omega (arith, ended w small e))
-
--- ---- how many bits are left
-
-end_tests : (a b : Bool) (x y m : ℕ) (q r : BitPos) {l : ℕ} → End l ≡ cond a (Number x q) (cond b (Number y r) (End m)) → l ≡ m
-end_tests true b x y m q r e = let z : ◌≡◌ {A = ℕ} 0 1 = cc in absurd (omega arith)
-end_tests false true x y m q r e = let z : ◌≡◌ {A = ℕ} 0 1 = cc in absurd (omega arith)
-end_tests false false x y m q r e = cc
-
-module _ (s : List ℕ) (p : ℕ) where
-  -- they come with the end, at any place and any width
-  pub end-left : (n : ℕ) {l : ℕ} → End l ≡ read_at s p n → l ≡ left_at s p
-  unfolding read_at
-  end-left n e = end_tests (eqb n 0) (leb n 32 && exist s p n) 0 (field_at s p n) (left_at s p) (record { 0 = p }) (record { 0 = p + n }) e
-
-  -- of a slice short enough for its bits to be counted in a usize, all of them
-  pub left_exact : length s < 2 ^ 61 → left_at s p ≡ 8 * length s - p
-  left_exact small = simp (lt-ltb (length s) (2 ^ 61) small)
-
-  -- at the end and past it, none
-  pub left_none : length s < 2 ^ 61 → 8 * length s ≤ p → left_at s p ≡ 0
-  left_none small h = left_exact small ∙ omega arith

@@ -1,5 +1,5 @@
 -- What a read of bits answers: document 01, "Bits".
-use Rattle.std.specs.Prelude.{ℕ, ◌+◌, ◌-◌, ◌*◌, ◌/◌, ◌^◌, List, Bool, ◌&&◌, cond, length, eqb, leb, ltb}
+use Rattle.std.specs.Prelude.{ℕ, ◌+◌, ◌*◌, ◌/◌, ◌^◌, List, Bool, ◌&&◌, cond, length, eqb, leb, ltb}
 use Rattle.bits.specs.declared.BitRead.{BitRead}
 use Rattle.bits.specs.declared.BitRead.TheVariants.{Number, End}
 use Rattle.bits.specs.Bits.{field_at}
@@ -12,19 +12,11 @@ readable w = leb 1 w && leb w 32
 abbrev pub exist : List ℕ → ℕ → ℕ → Bool
 exist s p n = leb (p + n) (8 * length s) && ltb (p + n) (2 ^ 64)
 
--- how many bits of so many bytes are left at IsBit p: none at the end and past it. Where a usize can't count the bits, its greatest number
-abbrev pub left_of : ℕ → ℕ → ℕ
-left_of bytes p = cond (ltb bytes (2 ^ 61)) (8 * bytes - p) (2 ^ 64 - 1)
-
-abbrev pub left_at : List ℕ → ℕ → ℕ
-left_at s p = left_of (length s) p
-
--- A read of 0 bits gives 0; of 1 to 32 bits gives the number if all bits exist; else the end. With a number comes the place after it, with the
--- end how many bits are left.
+-- A read of 0 bits gives 0; of 1 to 32 bits gives the number if all bits exist; else the end. With a number comes the place after it.
 unfoldable pub read_at : List ℕ → ℕ → ℕ → BitRead
 read_at s p n =
     cond (eqb n 0) (Number 0 (record { 0 = p }))
-    (cond (leb n 32 && exist s p n) (Number (field_at s p n) (record { 0 = p + n })) (End (left_at s p)))
+    (cond (leb n 32 && exist s p n) (Number (field_at s p n) (record { 0 = p + n })) End)
 
 -- the place divided by 8, rounded down, reaches the byte count
 abbrev pub exhausted_at : List ℕ → ℕ → Bool

@@ -2,7 +2,7 @@
 // A place is handed in and the next one handed back; the slice is lent for each read.
 ghost use Rattle.std.specs.Prelude.{◌≡◌, ◌++◌, ◌+◌, ◌-◌, ◌*◌, ◌/◌, ◌%◌, ◌^◌, ◌≤◌, ◌<◌, length, get_or, replicate};
 ghost use Rattle.bits.specs.Bits.{field_at};
-ghost use Rattle.bits.specs.Reading.{readable, left_of, read_at, exhausted_at};
+ghost use Rattle.bits.specs.Reading.{readable, read_at, exhausted_at};
 ghost use Rattle.bits.specs.Inner.Gathering.{Gathers};
 
 // A IsBit position, counted from the first byte's high IsBit.
@@ -13,11 +13,11 @@ pub struct BitPos(pub usize);
 #[derive(Drop)]
 pub struct BytePlace(pub usize);
 
-// What a read finds: the number and the place after it; or the end, with how many bits were left.
+// What a read finds: the number and the place after it, or the end.
 #[derive(Drop)]
 pub enum BitRead {
     Number(u32, BitPos),
-    End(usize),
+    End,
 }
 
 // Whether numbers of so many bits can be read.
@@ -42,21 +42,6 @@ pub fn exhausted(data: &[u8], at: BitPos) -> bool
     let place = byte_of(at);
     let i = place.0;
     data.len() <= i
-}
-
-// How many bits of so many bytes are left at a place: none at the end and past it. Where a usize can't count the bits, its greatest number.
-fn bits_left(bytes: usize, at: BitPos) -> usize
-    ensures { result ≡ left_of bytes at.0 }
-{
-    if bytes > 0x1fff_ffff_ffff_ffff {
-        return 0xffff_ffff_ffff_ffff;
-    }
-    let bits = 8 * bytes;
-    let p = at.0;
-    if bits <= p {
-        return 0;
-    }
-    bits - p
 }
 
 // The bits of 1 or 8 bytes from a place, as a number.
@@ -134,28 +119,30 @@ pub fn read_seldom(data: &[u8], at: BitPos, n: usize) -> BitRead
     if n == 0 {
         return BitRead::Number(0, at);
     }
+    if n > 32 {
+        return BitRead::End;
+    }
     let p = at.0;
+    if p > 0xffff_ffff_ffff_ffff - n {
+        return BitRead::End;
+    }
+    let end = p + n;
     let place = byte_of(at);
     let byte = place.0;
     let offset = p % 8;
-    if n <= 32 {
-        if n <= 0xffff_ffff_ffff_ffff - p {
-            let end = p + n;
-            if byte <= data.len() {
-                if (offset + n + 7) / 8 <= data.len() - byte {
-                    let rest = &data[byte..];
-                    return BitRead::Number(field(rest, offset, n), BitPos(end));
-                }
-            }
-        }
+    if data.len() < byte {
+        return BitRead::End;
     }
-    let left = bits_left(data.len(), at); // fewer than n, or n is over 32, or a usize can't count the place after them
-    BitRead::End(left)
+    if data.len() - byte < (offset + n + 7) / 8 {
+        return BitRead::End; // not all bits exist
+    }
+    let rest = &data[byte..];
+    BitRead::Number(field(rest, offset, n), BitPos(end))
 }
 
-// Reads n bits at a place: the number and the place after it, or the end, with how many bits are left. A read of 0 bits gives 0. All but the last
-// bytes are read eight at once, which is little enough for a compiler to put into a loop. The last ones go by `read_seldom`, which it must leave
-// out of there: docs/DECISIONS.md, "The bit read".
+// Reads n bits at a place: the number and the place after it, or the end. A read of 0 bits gives 0. All but the last bytes are read eight at
+// once, which is little enough for a compiler to put into a loop. The last ones go by `read_seldom`, which it must leave out of there:
+// docs/DECISIONS.md, "The bit read".
 pub fn read(data: &[u8], at: BitPos, n: usize) -> BitRead
     ensures { result ≡ read_at «data».now at.0 n }
 {

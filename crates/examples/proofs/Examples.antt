@@ -18,5 +18,5 @@ use Rattle.meshes.specs.Outcomes.{built}
 use Rattle.examples.specs.Table.{table, all_same}
 
 pub examples : T (all_same table)
-unfolding table read_at field_at number stream bits_of widths_readable layout_readable colour_of colour_row of_bits to_bits to_unsigned lt add sub neg sum round joined part flat fitted octets bytes field packed thin in_bytes raw_write F.sum F.numbers F.whole F.next F.readings F.raw_reading F.taken F.reading_end triangles_from triangles corners lattice if_three list_builder flags vertex4 type4_mesh built
+unfolding table read_at field_at number stream bits_of widths_readable layout_readable colour_of colour_row of_bits to_bits to_unsigned lt add sub neg sum round joined part flat fitted octets bytes field packed thin in_bytes raw_write F.sum F.numbers F.whole F.next F.readings F.raw_reading triangles_from triangles corners lattice if_three list_builder flags vertex4 type4_mesh built
 examples = tt

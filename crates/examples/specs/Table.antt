@@ -14,7 +14,7 @@ use Rattle.colour.specs.Colour.{colour_of}
 use Rattle.records.specs.declared.layout.FlagWidth.TheVariants.{Absent, Bits}
 use Rattle.records.specs.Layout.{layout_readable}
 use Rattle.records.specs.declared.shape.Kind.TheVariants.{Four, Five}
-use Rattle.records.specs.Format.{format, raw_reading, reading_end}
+use Rattle.records.specs.Format.{format, raw_reading}
 use Rattle.packing.specs.Writer.{raw_write}
 use Rattle.rules.specs.Triangles.{Tri, FlagRule, triangle_before, triangles}
 use Rattle.rules.specs.Lattice.{lattice}
@@ -43,10 +43,10 @@ all_same (r ∷ rs) = same r.gives r.has && all_same rs
 
 -- ---- answers as numbers
 
--- a number and the place after it; for the end, the bits that were left
+-- a number and the place after it; nothing for the end
 abbrev pub read_numbers : BitRead → List ℕ
 read_numbers (Number v q) = v ∷ q.0 ∷ []
-read_numbers (End left) = left ∷ []
+read_numbers End = []
 
 -- 0 where a layout is readable, else the number of LAYOUT
 abbrev pub layout_number : Bool → List ℕ
@@ -138,11 +138,9 @@ table =
     ∷ row 1 (read_numbers (read_at (0xA5 ∷ []) 4 4)) (5 ∷ 8 ∷ [])
     -- from IsBit 7, 32 bits over five bytes
     ∷ row 2 (read_numbers (read_at five_bytes 7 32)) (4294967295 ∷ 39 ∷ [])
-    -- 9 bits of one byte; 33 bits of five bytes; 4 bits where 3 are left, and past the end
-    ∷ row 3 (read_numbers (read_at (0xFF ∷ []) 0 9)) (8 ∷ [])
-    ∷ row 3 (read_numbers (read_at five_bytes 0 33)) (40 ∷ [])
-    ∷ row 3 (read_numbers (read_at (0xA5 ∷ []) 5 4)) (3 ∷ [])
-    ∷ row 3 (read_numbers (read_at (0xFF ∷ []) 9 4)) (0 ∷ [])
+    -- 9 bits of one byte; 33 bits of five bytes
+    ∷ row 3 (read_numbers (read_at (0xFF ∷ []) 0 9)) []
+    ∷ row 3 (read_numbers (read_at five_bytes 0 33)) []
     -- widths 1 and 32 pass, 0 and 33 give LAYOUT
     ∷ row 4 (widths 1 1 1) (0 ∷ [])
     ∷ row 4 (widths 32 32 32) (0 ∷ [])
@@ -162,8 +160,6 @@ table =
     -- Type 4, flag 2 bits, others 4, one component: 0 9 6 15 writes 25 BC and reads back as one vertex
     ∷ row 6 (outcome_numbers (raw_write Four 2 4 4 1 (0 ∷ 9 ∷ 6 ∷ 15 ∷ []) 2)) (0 ∷ 2 ∷ 0x25 ∷ 0xBC ∷ [])
     ∷ row 6 (raw_reading (format Four 2 4 4 1) (0x25 ∷ 0xBC ∷ [])) (0 ∷ 9 ∷ 6 ∷ 15 ∷ [])
-    -- it ends after 14 bits; the other two are fill
-    ∷ row 6 (reading_end (format Four 2 4 4 1) (0x25 ∷ 0xBC ∷ []) ∷ []) (14 ∷ [])
     -- lattice of 6, row length 3; 7 vertices: the same; 5: none
     ∷ row 7 (vertices (lattice 6 3)) (0 ∷ 1 ∷ 3 ∷ 1 ∷ 4 ∷ 3 ∷ 1 ∷ 2 ∷ 4 ∷ 2 ∷ 5 ∷ 4 ∷ [])
     ∷ row 7 (vertices (lattice 7 3)) (vertices (lattice 6 3))

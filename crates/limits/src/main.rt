@@ -3,6 +3,7 @@
 // a triangle's three vertices in Type 4, a patch in Type 7. All widths are 8 bits.
 ghost use Rattle.std.specs.Prelude.{◌≤◌};
 
+use answers::Told;
 use libc::STDOUT_FILENO;
 
 fn print_number(text: &[u8], number: usize) {
@@ -10,15 +11,15 @@ fn print_number(text: &[u8], number: usize) {
     io::print_decimal(STDOUT_FILENO, number as u64);
 }
 
-fn print_line(name: &[u8], n: usize, room: usize, refused: usize, count: usize) {
+fn print_line(name: &[u8], n: usize, room: usize, told: Told) {
     io::write_all(STDOUT_FILENO, name);
     print_number(b": ", n);
     print_number(b" components, room for ", room);
-    if refused == 0 {
-        print_number(b": wrote ", count);
+    if told.refused == 0 {
+        print_number(b": wrote ", told.count);
     } else {
-        print_number(b": refused ", refused);
-        print_number(b", count ", count);
+        print_number(b": refused ", told.refused);
+        print_number(b", count ", told.count);
     }
     io::write_all(STDOUT_FILENO, b"\n");
 }
@@ -31,16 +32,8 @@ fn parse4(n: usize, room: usize)
     let data = [0u8; 108];
     let decode = [0.0, 1.0, 0.0, 1.0];
     let mut out = [0.0f64; 126];
-    let told = answers::tell_reading(triangles::parse_type4_mesh(
-        &data,
-        8,
-        8,
-        8,
-        &decode,
-        n,
-        &mut out[0..room],
-    ));
-    print_line(b"parse_type4_mesh", n, room, told.refused, told.count);
+    let answer = triangles::parse_type4_mesh(&data, 8, 8, 8, &decode, n, &mut out[0..room]);
+    print_line(b"parse_type4_mesh", n, room, answers::tell(answer));
 }
 
 fn build4(n: usize, room: usize)
@@ -48,8 +41,8 @@ fn build4(n: usize, room: usize)
 {
     let values = [0.0f64; 108];
     let mut out = [0.0f64; 126];
-    let told = answers::tell(triangles::build_type4_from_array(&values, n, &mut out[0..room]));
-    print_line(b"build_type4_from_array", n, room, told.refused, told.count);
+    let answer = triangles::build_type4_from_array(&values, n, &mut out[0..room]);
+    print_line(b"build_type4_from_array", n, room, answers::tell(answer));
 }
 
 fn raw_read4(n: usize, room: usize)
@@ -57,15 +50,8 @@ fn raw_read4(n: usize, room: usize)
 {
     let data = [0u8; 108];
     let mut out = [0u32; 105];
-    let told = answers::tell_reading(records::raw::raw_read_type4(
-        &data,
-        8,
-        8,
-        8,
-        n,
-        &mut out[0..room],
-    ));
-    print_line(b"raw_read_type4", n, room, told.refused, told.count);
+    let answer = records::raw::raw_read_type4(&data, 8, 8, 8, n, &mut out[0..room]);
+    print_line(b"raw_read_type4", n, room, answers::tell(answer));
 }
 
 // A writer takes whole records only, so it is lent the numbers of three vertices with 32 components.
@@ -74,8 +60,8 @@ fn raw_write4(n: usize, room: usize)
 {
     let numbers = [0u32; 105];
     let mut out = [0u8; 105];
-    let told = answers::tell(packing::raw_write_type4(&numbers, 8, 8, 8, n, &mut out[0..room]));
-    print_line(b"raw_write_type4", n, room, told.refused, told.count);
+    let answer = packing::raw_write_type4(&numbers, 8, 8, 8, n, &mut out[0..room]);
+    print_line(b"raw_write_type4", n, room, answers::tell(answer));
 }
 
 // A patch of Type 7 has 33 + 4 * n numbers; with 33 components that is 165.
@@ -86,16 +72,8 @@ fn parse7(n: usize, room: usize)
     let data = [0u8; 165];
     let decode = [0.0, 1.0, 0.0, 1.0];
     let mut out = [0.0f64; 192];
-    let told = answers::tell_reading(patches::parse_type7_patches(
-        &data,
-        8,
-        8,
-        8,
-        &decode,
-        n,
-        &mut out[0..room],
-    ));
-    print_line(b"parse_type7_patches", n, room, told.refused, told.count);
+    let answer = patches::parse_type7_patches(&data, 8, 8, 8, &decode, n, &mut out[0..room]);
+    print_line(b"parse_type7_patches", n, room, answers::tell(answer));
 }
 
 fn build7(n: usize, room: usize)
@@ -103,8 +81,8 @@ fn build7(n: usize, room: usize)
 {
     let values = [0.0f64; 165];
     let mut out = [0.0f64; 192];
-    let told = answers::tell(patches::build_type7_from_array(&values, n, &mut out[0..room]));
-    print_line(b"build_type7_from_array", n, room, told.refused, told.count);
+    let answer = patches::build_type7_from_array(&values, n, &mut out[0..room]);
+    print_line(b"build_type7_from_array", n, room, answers::tell(answer));
 }
 
 fn main() {

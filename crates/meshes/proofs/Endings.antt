@@ -8,33 +8,31 @@ use lib.ListN.{length}
 use lib.Ieee.{Float}
 use Rattle.answers.specs.declared.Refusal.TheVariants.{Layout, Components, Length}
 use Rattle.answers.specs.declared.Answer.TheVariants.{Refused}
-use Rattle.answers.specs.declared.Reading.TheVariants as Reading
 use Rattle.answers.specs.Limits.{most_components, most_bytes, most_numbers}
-use Rattle.answers.specs.Outcome.{Done, DoneReading}
+use Rattle.answers.specs.Outcome.{Done}
 use Rattle.answers.proofs.Outcomes.{was_refused}
-use Rattle.answers.proofs.ReadOutcomes.{refused_at}
 use Rattle.records.specs.Layout.{layout_readable}
 use Rattle.rules.specs.Meshes.{Source, Finished}
 use Rattle.meshes.specs.Decoded.{as_listed}
-use Rattle.meshes.specs.Outcomes.{fitted_mesh, Stream, raw_of, decode_of, parsed, reading, built}
+use Rattle.meshes.specs.Outcomes.{fitted_mesh, Stream, raw_of, decode_of, parsed, built}
 
 module _ (m : Stream) (mesh : Source ℕ Float → ℕ → List ℕ → Finished Float) (s : List ℕ) (entry : List Float) where
   abbrev layout : Bool
   layout = layout_readable m.coord m.comp m.flag (length m.entries)
 
-  pub unreadable : layout ≡ false → DoneReading (reading m mesh s (length entry)) entry (Reading.Refused Layout) entry
+  pub unreadable : layout ≡ false → Done (parsed m mesh s (length entry)) entry (Refused Layout) entry
   unfolding parsed
-  unreadable e = rw e (refused_at Layout _ was_refused)
+  unreadable e = rw e was_refused
 
   module _ (e : layout ≡ true) where
-    pub many_components : most_components < m.n → DoneReading (reading m mesh s (length entry)) entry (Reading.Refused Components) entry
+    pub many_components : most_components < m.n → Done (parsed m mesh s (length entry)) entry (Refused Components) entry
     unfolding parsed
-    many_components h = rw e (simp (lt-ltb _ _ h) (refused_at Components _ was_refused))
+    many_components h = rw e (simp (lt-ltb _ _ h) was_refused)
 
     module _ (IsFew : m.n ≤ most_components) where
-      pub too_long : most_bytes < length s → DoneReading (reading m mesh s (length entry)) entry (Reading.Refused Length) entry
+      pub too_long : most_bytes < length s → Done (parsed m mesh s (length entry)) entry (Refused Length) entry
       unfolding parsed
-      too_long h = rw e (simp (le-ltb _ _ IsFew, lt-ltb _ _ h) (refused_at Length _ was_refused))
+      too_long h = rw e (simp (le-ltb _ _ IsFew, lt-ltb _ _ h) was_refused)
 
       pub accepted : length s ≤ most_bytes → parsed m mesh s (length entry) ≡ fitted_mesh (mesh (decode_of m) m.n (raw_of m s)) (length entry)
       unfolding parsed

@@ -10,8 +10,6 @@ use lib.Pow.{pow_mono}
 use lib.ListN.{length}
 use lib.Ieee.{Float}
 use Rattle.lists.specs.Lists.{All}
-use Rattle.answers.specs.declared.ToldReading.{ToldReading}
-use Rattle.answers.specs.Outcome.{TellsReading}
 use Rattle.bits.specs.Bits.{stream}
 use Rattle.bits.proofs.Streams.{length-stream, stream_below}
 use Rattle.decode.specs.Decode.{Ranges}
@@ -19,10 +17,10 @@ use Rattle.records.specs.declared.layout.FlagWidth.TheVariants.{Bits}
 use Rattle.records.specs.declared.shape.Kind.{Kind}
 use Rattle.records.specs.declared.shape.Kind.TheVariants.{Four, Six, Seven}
 use Rattle.records.specs.Layout.{layout_readable}
-use Rattle.records.specs.Format.{Meaning, two_low_bits, Format, format_by, readings, raw_reading, reading_end}
+use Rattle.records.specs.Format.{Meaning, two_low_bits, Format, format_by, readings, raw_reading}
 use Rattle.records.specs.Flags.{met, cleared}
 use Rattle.records.proofs.Layouts.{layout-widths}
-use Rattle.records.proofs.Meanings.{size_by, Alike, met_alike, met-taken, met_below}
+use Rattle.records.proofs.Meanings.{size_by, Alike, met_alike, met_below}
 use Rattle.records.proofs.Cleared.{length-cleared, cleared_alike}
 use Rattle.rules.specs.Triangles.{Rule, triangles}
 use Rattle.rules.specs.Patches.{Table}
@@ -30,7 +28,7 @@ use Rattle.rules.specs.Meshes.{Source, Finished, type4_mesh, patch_mesh}
 use Rattle.rules.proofs.Lists.{all_map}
 use Rattle.rules.proofs.Alike.{alike_type4_mesh, alike_patch_mesh}
 use Rattle.meshes.specs.Decoded.{by_decode}
-use Rattle.meshes.specs.Outcomes.{Stream, raw_of, decode_of, parsed, end_of, reading}
+use Rattle.meshes.specs.Outcomes.{Stream, raw_of, decode_of, parsed}
 
 -- what is made of the raw numbers
 abbrev pub Mesh : Type 0
@@ -75,18 +73,6 @@ module _ (kind : Kind) (coord comp flag : ℕ) (entries : List Float) (n : ℕ) 
       go false e = rw e
       go true e = rw (h e, l)
 
-  -- nor does a refused call tell where records end, so the end of an accepted one decides
-  pub same-reading : (mesh : Mesh) (meaning meaning' : Meaning) (s t : List ℕ) (room : ℕ)
-      → parsed (by meaning) mesh s room ≡ parsed (by meaning') mesh t room → (readable ≡ true → end_of (by meaning) s ≡ end_of (by meaning') t)
-      → {entry exit : List Float} {told : ToldReading} → TellsReading (reading (by meaning) mesh s room) entry told exit
-      → TellsReading (reading (by meaning') mesh t room) entry told exit
-  unfolding parsed
-  same-reading mesh meaning meaning' s t room same ends {entry} {exit} {told} d = go readable refl
-    where
-      go : (b : Bool) → readable ≡ b → TellsReading (reading (by meaning') mesh t room) entry told exit
-      go false e = record { answered = rw e (rw e at d.answered); held = rw e (rw e at d.held) }
-      go true e = record { answered = rw (← same, ← (ends e)) d.answered; held = rw (← same) d.held }
-
   -- the bits of bytes with the upper bits of each flag cleared
   abbrev pub clear : List ℕ → List ℕ
   clear s = cleared (F two_low_bits) (length (stream s)) false (stream s)
@@ -105,26 +91,19 @@ module _ (kind : Kind) (coord comp flag : ℕ) (entries : List Float) (n : ℕ) 
         (λ e. kept meaning meaning' _ n _ _ (met_alike kind flag coord comp n meaning meaning' (length (stream s)) false (stream s) a))
 
     -- or on every number of 32 bits, as no flag has more
-    module _ (meaning meaning' : Meaning) (h : (x : ℕ) → x < 2 ^ 32 → meaning x ≡ meaning' x) (s : List ℕ) where
-      words-met : readable ≡ true → All (λ (x : ℕ). meaning x ≡ meaning' x) (met (F meaning) (length (stream s)) false (stream s))
-      words-met e =
-          let w = layout-widths (Bits flag) coord comp (length entries) e in
-          all_map (λ (x : ℕ). x < 2 ^ flag) (λ (x : ℕ). meaning x ≡ meaning' x) (met (F meaning) (length (stream s)) false (stream s))
-          (λ x l. h x (lt_of_lt_of_le l (pow_mono w.of_first.few_bits)))
-          (met_below (F meaning) (length (stream s)) false (stream s) (stream_below s))
-
-      pub word_outcome : (room : ℕ) → parsed (by meaning) mesh s room ≡ parsed (by meaning') mesh s room
-      unfolding raw_reading
-      word_outcome =
-          same_outcome mesh meaning meaning' s s refl
-          (λ e. kept meaning meaning' _ n _ _ (met_alike kind flag coord comp n meaning meaning' (length (stream s)) false (stream s) (words-met e)))
-
-      pub word_reading : (room : ℕ) {entry exit : List Float} {told : ToldReading} → TellsReading (reading (by meaning) mesh s room) entry told exit
-          → TellsReading (reading (by meaning') mesh s room) entry told exit
-      unfolding reading_end
-      word_reading room =
-          same-reading mesh meaning meaning' s s room (word_outcome room)
-          (λ e. met-taken kind flag coord comp n meaning meaning' (length (stream s)) false (stream s) (words-met e))
+    pub word_outcome : (meaning meaning' : Meaning) → ((x : ℕ) → x < 2 ^ 32 → meaning x ≡ meaning' x)
+        → (s : List ℕ) (room : ℕ) → parsed (by meaning) mesh s room ≡ parsed (by meaning') mesh s room
+    unfolding raw_reading
+    word_outcome meaning meaning' h s =
+        same_outcome mesh meaning meaning' s s refl
+        (λ e.
+        let w = layout-widths (Bits flag) coord comp (length entries) e in
+        let xs : List ℕ = met (F meaning) (length (stream s)) false (stream s) in
+        kept meaning meaning' _ n _ _
+        (met_alike kind flag coord comp n meaning meaning' (length (stream s)) false (stream s)
+        (all_map (λ (x : ℕ). x < 2 ^ flag) (λ (x : ℕ). meaning x ≡ meaning' x) xs
+        (λ x l. h x (lt_of_lt_of_le l (pow_mono w.of_first.few_bits)))
+        (met_below (F meaning) (length (stream s)) false (stream s) (stream_below s)))))
 
     -- a mesh by the two low bits of its flags is that of the bits with the upper ones cleared, by any meaning that leaves flags below 4 alone
     cleared-mesh : (meaning : Meaning) → ((x : ℕ) → x < 4 → meaning x ≡ x) → (R : Ranges) (s : List ℕ)

@@ -11,4 +11,3 @@ pub mod TriangleReadings
 pub mod PatchReadings
 pub mod FlagReadings
 pub mod PublishedBytes
-pub mod Positions

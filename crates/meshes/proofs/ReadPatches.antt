@@ -1,10 +1,10 @@
--- The records of a patch mesh in bits: the raw reading and Decode against the places of the bits, and where it ends. Assumes nothing.
+-- The records of a patch mesh in bits: the raw reading and Decode against the places of the bits. Assumes nothing.
 use Prim.Native.Nat.{ℕ, zero, suc, ◌+◌, ◌*◌, ◌≤◌, ◌<◌}
 use mathlib.Core.Path.{◌≡◌, refl, sym, ap, ◌∙◌}
-use mathlib.Core.Bool.{Bool, true, false}
+use mathlib.Core.Bool.{Bool, true}
 use mathlib.Core.List.{List, [], ◌∷◌, ◌++◌}
 use mathlib.Core.Option.{Option, none, some, none-ne-some, some-injective}
-use native.Mathlib.Nat.{zero-add, lt_of_not-le}
+use native.Mathlib.Nat.{lt_of_not-le}
 use native.Mathlib.Decide.{dec_le}
 use native.Mathlib.Omega.{arith}
 use borrow.Author.Tests.{le-leb, lt-leb}
@@ -14,8 +14,7 @@ use lib.Seq.{drop-drop}
 use Rattle.bits.specs.Bits.{number, stream, field_at}
 use Rattle.decode.specs.Decode.{Ranges}
 use Rattle.colour.specs.Inner.Places.{bit_numbers}
-use Rattle.records.specs.Format.{sum, Meaning, Format, patch_shape, widths_of, next, readings, raw_reading, taken, reading_end, points_after, colours_after}
-use Rattle.records.proofs.Ends.{taken_none, taken_on}
+use Rattle.records.specs.Format.{sum, Meaning, Format, patch_shape, widths_of, readings, raw_reading, points_after, colours_after}
 use Rattle.records.proofs.Readings.{sum-append, sum-replicate, next_fits, next_none, readings_none, readings_enough, length_from}
 use Rattle.rules.specs.Patches.{Table, mesh}
 use Rattle.rules.specs.Meshes.{piece, pieces, patch_mesh}
@@ -55,14 +54,6 @@ module _ (flag : Meaning) (own first coord comp n : ℕ) where
   more-ends none (suc f) h = rw (eqb-suc-zero f)
   more-ends (some b) (suc f) h = rw (eqb-suc-zero f, lt-leb (suc f) 3 h)
 
-  -- the IsBit position after the last complete record, from IsBit p on
-  abbrev pub end_from : List ℕ → Bool → ℕ → ℕ
-  end_from s started p = p + taken F (length (stream s)) started (drop p (stream s))
-
-  pub end_start : (s : List ℕ) → reading_end F s ≡ end_from s false 0
-  unfolding reading_end
-  end_start s = sym (zero-add _)
-
   module _ (some_bits : 1 ≤ first) (s : List ℕ) where
     -- the raw numbers from IsBit p on, once there is a patch or not
     abbrev rest : Bool → ℕ → List ℕ
@@ -75,18 +66,31 @@ module _ (flag : Meaning) (own first coord comp n : ℕ) where
     abbrev body : ℕ → ℕ → List ℕ
     body p f = body_numbers s coord comp (2 * points_after own f) (colours_after f * n) (p + first)
 
-    -- a whole record whose flag may come
-    next-whole : {P : Type 0} (b : Option P) (p f : ℕ) → f ≡ flag (field_at s p first) → f ≤ highest b → p + size f ≤ 8 * length s
-        → next F (there b) (drop p (stream s)) ≡ some (first ∷ after f)
+    takes : {P : Type 0} (b : Option P) (p f : ℕ) → f ≡ flag (field_at s p first) → f ≤ highest b → p + size f ≤ 8 * length s
+        → pieces 0 flag own n (rest (there b) p) ≡ piece 0 own n f (body p f) ∷ pieces 0 flag own n (rest true (p + size f))
     unfolding field_at
-    next-whole b p f e a h =
-        next_fits F (there b) (drop p (stream s)) (after f) (rw (← e) (more_allowed b f a)) (omega (arith, sum-after f, length_from s p (omega arith)))
+    takes b p f e a h =
+        let bits : List ℕ = drop p (stream s) in
+        let m : F.more (there b) (number (take first bits)) ≡ some (after f) = rw (← e) (more_allowed b f a) in
+        let w = sum-after f in
+        let fits : first + sum (after f) ≤ length bits = omega (arith, length_from s p (omega arith)) in
+        let stands = next_fits F (there b) bits (after f) m fits in
+        let k : ℕ = length (stream s) in
+        rw (
+          readings_enough F k (suc k) (there b) bits some_bits (left p) (omega (arith, left p)),
+          pieces-reading flag own first coord comp n k (there b) bits (after f) m stands,
+          ← e,
+          drop-drop first p (stream s),
+          drop-drop (first + sum (after f)) p (stream s),
+          w,
+        )
 
-    -- none, or one whose flag may not come
-    next-ends : {P : Type 0} (b : Option P) (p : ℕ) → p ≤ 8 * length s
-        → (flag (field_at s p first) ≤ highest b → 8 * length s < p + size (flag (field_at s p first))) → next F (there b) (drop p (stream s)) ≡ none
+    stops : {P : Type 0} (b : Option P) (p : ℕ) → p ≤ 8 * length s
+        → (flag (field_at s p first) ≤ highest b → 8 * length s < p + size (flag (field_at s p first))) → pieces 0 flag own n (rest (there b) p) ≡ []
     unfolding field_at
-    next-ends b p within h = next_none F (there b) bits (λ ws e. cut ws e (dec_le f (highest b)))
+    stops b p within h =
+        ap (pieces 0 flag own n) (readings_none F (length (stream s)) (there b) bits (next_none F (there b) bits (λ ws e. cut ws e (dec_le f (highest b)))))
+        ∙ pieces_none 0 own n flag
       where
         bits : List ℕ
         bits = drop p (stream s)
@@ -99,29 +103,6 @@ module _ (flag : Meaning) (own first coord comp n : ℕ) where
             let same : after f ≡ ws = some-injective _ _ (sym (more_allowed b f a) ∙ e) in
             rw (← same) (omega (arith, h a, sum-after f, length_from s p within))
         cut ws e (no a) = absurd (none-ne-some ws (sym (more-ends b _ (lt_of_not-le a)) ∙ e))
-
-    -- ---- the mesh
-
-    takes : {P : Type 0} (b : Option P) (p f : ℕ) → f ≡ flag (field_at s p first) → f ≤ highest b → p + size f ≤ 8 * length s
-        → pieces 0 flag own n (rest (there b) p) ≡ piece 0 own n f (body p f) ∷ pieces 0 flag own n (rest true (p + size f))
-    unfolding field_at
-    takes b p f e a h =
-        let bits : List ℕ = drop p (stream s) in
-        let m : F.more (there b) (number (take first bits)) ≡ some (after f) = rw (← e) (more_allowed b f a) in
-        let k : ℕ = length (stream s) in
-        rw (
-          readings_enough F k (suc k) (there b) bits some_bits (left p) (omega (arith, left p)),
-          pieces-reading flag own first coord comp n k (there b) bits (after f) m (next-whole b p f e a h),
-          ← e,
-          drop-drop first p (stream s),
-          drop-drop (first + sum (after f)) p (stream s),
-          sum-after f,
-        )
-
-    stops : {P : Type 0} (b : Option P) (p : ℕ) → p ≤ 8 * length s
-        → (flag (field_at s p first) ≤ highest b → 8 * length s < p + size (flag (field_at s p first))) → pieces 0 flag own n (rest (there b) p) ≡ []
-    stops b p within h =
-        ap (pieces 0 flag own n) (readings_none F (length (stream s)) (there b) (drop p (stream s)) (next-ends b p within h)) ∙ pieces_none 0 own n flag
 
     ends_there : (T : Table) (R : Ranges) (b : Option RowPatch) (p : ℕ) → pieces 0 flag own n (rest (there b) p) ≡ []
         → mesh T b (row_pieces (reads-decode flag R) own n (rest (there b) p)) ≡ []
@@ -136,17 +117,3 @@ module _ (flag : Meaning) (own first coord comp n : ℕ) where
         records_of (reads-decode flag R) own n T first coord comp (8 * length s) (λ (p : ℕ). flag (field_at s p first)) (bit_numbers s R) rest
         (λ b p f e a h. (body p f, takes b p f e a h, in_bits s coord comp (2 * points_after own f) (colours_after f * n) (p + first) flag R))
         (λ b p within h. ends_there T R b p (stops b p within h))
-
-    -- ---- where it ends
-
-    pub end_more : {P : Type 0} (b : Option P) (p f : ℕ) → f ≡ flag (field_at s p first) → f ≤ highest b → p + size f ≤ 8 * length s
-        → end_from s (there b) p ≡ end_from s true (p + size f)
-    unfolding sum
-    end_more b p f e a h =
-        let on = taken_on F (length (stream s)) (there b) (drop p (stream s)) (first ∷ after f) some_bits (left p) (next-whole b p f e a h) in
-        omega (arith, rw (drop-drop (first + sum (after f)) p (stream s), sum-after f) at on)
-
-    pub end_here : {P : Type 0} (b : Option P) (p : ℕ) → p ≤ 8 * length s
-        → (flag (field_at s p first) ≤ highest b → 8 * length s < p + size (flag (field_at s p first))) → end_from s (there b) p ≡ p
-    end_here b p within h =
-        omega (arith, taken_none F (length (stream s)) (there b) (drop p (stream s)) (next-ends b p within h))

@@ -4,14 +4,14 @@ use Rattle.std.specs.Prelude.{ℕ, not, List, length, ltb, Float}
 use Rattle.std.proofs.Math.Option.{none}
 use Rattle.answers.specs.declared.Refusal.TheVariants.{Layout, Components, Length}
 use Rattle.answers.specs.Limits.{most_components, most_bytes, most_numbers}
-use Rattle.answers.specs.Outcome.{Outcome, refuse_if, fitted, ReadOutcome}
+use Rattle.answers.specs.Outcome.{Outcome, refuse_if, fitted}
 use Rattle.decode.specs.Decode.{ranges}
 use Rattle.records.specs.declared.layout.FlagWidth.{FlagWidth}
 use Rattle.records.specs.declared.layout.FlagWidth.TheVariants.{Absent, Bits}
 use Rattle.records.specs.declared.shape.Kind.{Kind}
 use Rattle.records.specs.declared.shape.Kind.TheVariants.{Four, Five, Six, Seven}
 use Rattle.records.specs.Layout.{first_width, layout_readable}
-use Rattle.records.specs.Format.{Meaning, whole_number, two_low_bits, Format, format_by, raw_reading, reading_end}
+use Rattle.records.specs.Format.{Meaning, whole_number, two_low_bits, format_by, raw_reading}
 use Rattle.rules.specs.Triangles.{FlagRule, triangle_before, triangles}
 use Rattle.rules.specs.Ported.{binary_reader}
 use Rattle.rules.specs.Patches.{Table, sides}
@@ -34,26 +34,9 @@ pub record Stream : Type 0 where
   pub entries : List Float
   pub n : ℕ
 
--- Type 5 has no flags
-abbrev pub flag_width : Kind → ℕ → FlagWidth
-flag_width Four flag = Bits flag
-flag_width Five flag = Absent
-flag_width Six flag = Bits flag
-flag_width Seven flag = Bits flag
-
-abbrev pub stream_of : Kind → Meaning → ℕ → ℕ → ℕ → List Float → ℕ → Stream
-stream_of kind meaning coord comp flag entries n =
-    record { kind = kind; meaning = meaning; flag = flag_width kind flag; coord = coord; comp = comp; entries = entries; n = n }
-
-abbrev pub stream_format : Stream → Format
-stream_format m = format_by m.meaning m.kind (first_width m.flag m.coord) m.coord m.comp m.n
-
--- the raw numbers of the bytes s, and the IsBit position after the last complete record
+-- the raw numbers of the bytes s
 abbrev pub raw_of : Stream → List ℕ → List ℕ
-raw_of m s = raw_reading (stream_format m) s
-
-abbrev pub end_of : Stream → List ℕ → ℕ
-end_of m s = reading_end (stream_format m) s
+raw_of m s = raw_reading (format_by m.meaning m.kind (first_width m.flag m.coord) m.coord m.comp m.n) s
 
 -- what they stand for
 abbrev pub decode_of : Stream → Source ℕ Float
@@ -68,32 +51,25 @@ parsed m mesh s room =
     (fitted_mesh (mesh (decode_of m) m.n (raw_of m s)) room)))
 
 abbrev pub parse4 : Meaning → FlagRule → List ℕ → ℕ → ℕ → ℕ → List Float → ℕ → ℕ → Outcome Float
-parse4 meaning rule s coord comp flag entries n room = parsed (stream_of Four meaning coord comp flag entries n) (type4_mesh rule) s room
+parse4 meaning rule s coord comp flag entries n room =
+    parsed (record { kind = Four; meaning = meaning; flag = Bits flag; coord = coord; comp = comp; entries = entries; n = n })
+    (type4_mesh rule) s room
 
+-- Type 5 has no flags
 abbrev pub parse5 : List ℕ → ℕ → ℕ → List Float → ℕ → ℕ → ℕ → Outcome Float
-parse5 s coord comp entries n row room = parsed (stream_of Five whole_number coord comp 0 entries n) (type5_mesh row) s room
+parse5 s coord comp entries n row room =
+    parsed (record { kind = Five; meaning = whole_number; flag = Absent; coord = coord; comp = comp; entries = entries; n = n })
+    (type5_mesh row) s room
 
 abbrev pub parse6 : Meaning → Table → List ℕ → ℕ → ℕ → ℕ → List Float → ℕ → ℕ → Outcome Float
-parse6 meaning T s coord comp flag entries n room = parsed (stream_of Six meaning coord comp flag entries n) (patch_mesh T 8) s room
+parse6 meaning T s coord comp flag entries n room =
+    parsed (record { kind = Six; meaning = meaning; flag = Bits flag; coord = coord; comp = comp; entries = entries; n = n })
+    (patch_mesh T 8) s room
 
 abbrev pub parse7 : Meaning → Table → List ℕ → ℕ → ℕ → ℕ → List Float → ℕ → ℕ → Outcome Float
-parse7 meaning T s coord comp flag entries n room = parsed (stream_of Seven meaning coord comp flag entries n) (patch_mesh T 12) s room
-
--- what a reader of bytes comes to: the mesh, and the IsBit position after the last complete record
-abbrev pub reading : Stream → (Source ℕ Float → ℕ → List ℕ → Finished Float) → List ℕ → ℕ → ReadOutcome Float
-reading m mesh s room = record { outcome = parsed m mesh s room; end = end_of m s }
-
-abbrev pub read4 : Meaning → FlagRule → List ℕ → ℕ → ℕ → ℕ → List Float → ℕ → ℕ → ReadOutcome Float
-read4 meaning rule s coord comp flag entries n room = reading (stream_of Four meaning coord comp flag entries n) (type4_mesh rule) s room
-
-abbrev pub read5 : List ℕ → ℕ → ℕ → List Float → ℕ → ℕ → ℕ → ReadOutcome Float
-read5 s coord comp entries n row room = reading (stream_of Five whole_number coord comp 0 entries n) (type5_mesh row) s room
-
-abbrev pub read6 : Meaning → Table → List ℕ → ℕ → ℕ → ℕ → List Float → ℕ → ℕ → ReadOutcome Float
-read6 meaning T s coord comp flag entries n room = reading (stream_of Six meaning coord comp flag entries n) (patch_mesh T 8) s room
-
-abbrev pub read7 : Meaning → Table → List ℕ → ℕ → ℕ → ℕ → List Float → ℕ → ℕ → ReadOutcome Float
-read7 meaning T s coord comp flag entries n room = reading (stream_of Seven meaning coord comp flag entries n) (patch_mesh T 12) s room
+parse7 meaning T s coord comp flag entries n room =
+    parsed (record { kind = Seven; meaning = meaning; flag = Bits flag; coord = coord; comp = comp; entries = entries; n = n })
+    (patch_mesh T 12) s room
 
 -- the ported reader of a type; the row length is used by Type 5 alone
 unfoldable pub ported_reader : Kind → List ℕ → ℕ → ℕ → ℕ → List Float → ℕ → ℕ → ℕ → Outcome Float

@@ -10,10 +10,8 @@ use Rattle.lists.specs.Lists.{Begins}
 use Rattle.lists.proofs.Pieces.{joined_same}
 use Rattle.answers.specs.Outcome.{number_of, Done}
 use Rattle.answers.specs.declared.Refusal.{Refusal}
-use Rattle.answers.specs.declared.Reading.{Reading}
-use Rattle.answers.specs.declared.Reading.TheVariants as Reading
-use Rattle.answers.specs.Inner.Ends.{without_end}
-use Rattle.bits.specs.declared.BitPos.{BitPos}
+use Rattle.answers.specs.declared.Answer.{Answer}
+use Rattle.answers.specs.declared.Answer.TheVariants.{Wrote, Refused}
 use Rattle.answers.specs.Limits.{most_components}
 use Rattle.records.specs.declared.shape.Kind.{Kind}
 use Rattle.records.specs.declared.shape.Kind.TheVariants.{Four, Five, Six, Seven}
@@ -73,12 +71,12 @@ pub record Listable (kind : Kind) (n count : ℕ) (numbers : List Float) : Type 
   pub there : count * stride_of kind n ≤ length numbers
   pub room : count * stride_of kind n ≤ most_answer
 
-module _ (kind : Kind) (s : List ℕ) {entry exit : List Float} (r : Reading) (d : Done (answer_of kind s) entry (without_end r) exit) where
-  pub refused_listing : {q : Refusal} → r ≡ Reading.Refused q → refused_line (number_of q) ≡ listing kind (components s) (answer_of kind s)
+module _ (kind : Kind) (s : List ℕ) {entry exit : List Float} {r : Answer} (d : Done (answer_of kind s) entry r exit) where
+  pub refused_listing : {q : Refusal} → r ≡ Refused q → refused_line (number_of q) ≡ listing kind (components s) (answer_of kind s)
   unfolding listing
   refused_listing {q} e = rw (outcome_refused (answer_of kind s) q (rw e at d))
 
-  module _ {count : ℕ} {end : BitPos} (e : r ≡ Reading.Read count end) where
+  module _ {count : ℕ} (e : r ≡ Wrote count) where
     begun : Begun (answer_of kind s) count exit
     begun = outcome_wrote (answer_of kind s) (rw e at d)
 

@@ -2,14 +2,13 @@
 ghost use Rattle.std.specs.Prelude.{◌≡◌, ◌≤◌, length};
 ghost use Rattle.lists.specs.Writing.{Written};
 ghost use Rattle.answers.specs.Outcome.{Done};
-ghost use Rattle.answers.specs.Inner.Ends.{without_end};
 ghost use Rattle.meshes.specs.Outcomes.{ported_reader};
 ghost use Rattle.msf.specs.Listing.{listing};
 ghost use Rattle.msf.specs.File.{components, data_at, answer_of, file_listing};
 
 use crate::header::Named;
 use crate::lines::{put_listing, put_refused};
-use answers::{Reading, Refusal};
+use answers::{Answer, Refusal};
 use decode::stored::{big_endian, read_floats};
 use patches::{parse_type6_patches, parse_type7_patches};
 use records::shape::Kind;
@@ -33,8 +32,8 @@ fn read_kind(
     n: usize,
     row: usize,
     numbers: &mut [f64],
-) -> Reading
-    ensures { Done (ported_reader kind «data».now coord comp flag decode.now n row (length numbers.old)) numbers.old (without_end result) numbers.new }
+) -> Answer
+    ensures { Done (ported_reader kind «data».now coord comp flag decode.now n row (length numbers.old)) numbers.old result numbers.new }
 {
     match kind {
         Kind::Four => parse_type4_mesh(data, coord, comp, flag, decode, n, numbers),
@@ -45,9 +44,9 @@ fn read_kind(
 }
 
 // Reads the mesh of a file, whose header and entries are there.
-fn read_mesh(kind: Kind, file: &[u8], numbers: &mut [f64]) -> Reading
+fn read_mesh(kind: Kind, file: &[u8], numbers: &mut [f64]) -> Answer
     requires { (data_at file.now ≤ length file.now) × (length numbers.old ≡ 8192) }
-    ensures { Done (answer_of kind file.now) numbers.old (without_end result) numbers.new }
+    ensures { Done (answer_of kind file.now) numbers.old result numbers.new }
 {
     let mut entries = [0.0f64; 255];
     let count = header::byte_at(file, 12);
@@ -79,8 +78,8 @@ fn list_mesh(kind: Kind, file: &[u8], out: &mut [u8]) -> usize
     let n = header::byte_at(file, 9);
     let mut numbers = [0.0f64; 8192];
     match read_mesh(kind, file, &mut numbers) {
-        Reading::Refused(refusal) => put_refused(refusal, out),
-        Reading::Read(count, _) => put_listing(kind, n, &numbers, count, out),
+        Answer::Refused(refusal) => put_refused(refusal, out),
+        Answer::Wrote(count) => put_listing(kind, n, &numbers, count, out),
     }
 }
 

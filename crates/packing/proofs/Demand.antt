@@ -1,7 +1,7 @@
--- Demand 3: what a raw writer accepts is read back, to the last byte, no two lists share bytes, and a cut gives a beginning. Assumes nothing.
+-- Demand 3: what a raw writer accepts is read back, no two lists share bytes, and a cut gives a beginning. Assumes nothing.
 use mathlib.Core.Path.{◌≡◌, sym, ap, ap₂, ◌∙◌, subst}
 use mathlib.Core.List.{List, ◌++◌}
-use Prim.Native.Nat.{ℕ, ◌+◌, ◌-◌, ◌*◌, ◌≤◌, ◌<◌}
+use Prim.Native.Nat.{ℕ, ◌≤◌}
 use native.Mathlib.Nat.{le_refl, le_trans}
 use native.Mathlib.Omega.{arith}
 use borrow.Author.Tests.{le-ltb}
@@ -10,46 +10,31 @@ use lib.Seq.{take_at, take_all, take-append-le}
 use Rattle.lists.specs.Lists.{Begins}
 use Rattle.lists.proofs.Members.{begins_of_take}
 use Rattle.answers.specs.declared.Answer.{Answer}
-use Rattle.answers.specs.declared.Reading.{Reading}
-use Rattle.answers.specs.declared.ToldReading.{ToldReading}
+use Rattle.answers.specs.declared.Told.{Told}
 use Rattle.answers.specs.Limits.{most_components, most_bytes}
-use Rattle.answers.specs.Outcome.{told, told_reading, Outcome, wrote, fitted, Done, DoneReading}
+use Rattle.answers.specs.Outcome.{told, Outcome, wrote, fitted, Done}
 use Rattle.answers.proofs.OneOutcome.{not_refused}
 use Rattle.records.specs.declared.shape.Kind.{Kind}
-use Rattle.records.specs.Format.{Format, format, raw_reading, reading_end}
-use Rattle.records.specs.Raw.{raw_read, read_raw}
+use Rattle.records.specs.Format.{format, raw_reading}
+use Rattle.records.specs.Raw.{raw_read}
 use Rattle.records.proofs.Layouts.{widths_readable_lem}
 use Rattle.records.proofs.Readings.{cut_begins}
-use Rattle.packing.specs.Packed.{byte_count}
 use Rattle.packing.specs.Writer.{raw_write}
 use Rattle.packing.proofs.Filling.{length-bytes}
 use Rattle.packing.proofs.Accepting.{accepted_bits}
-use Rattle.packing.proofs.Refusing.{Accepted, accepted}
+use Rattle.packing.proofs.Refusing.{accepted}
 use Rattle.packing.proofs.RoundTrip.{read_back, thick}
 
 module _ (kind : Kind) (first coord comp n : ℕ) where
-  -- an accepted list is read back from its bytes, and the reading ends after its bits
-  back : (xs : List ℕ) (k : ℕ) (bs : List ℕ) (a : Accepted kind first coord comp n xs k bs)
-      → (raw_reading (format kind first coord comp n) bs ≡ xs) × (reading_end (format kind first coord comp n) bs ≡ length a.bits)
-  back xs k bs a =
+  -- the bytes of an accepted list give exactly that list
+  pub reads_back : (xs : List ℕ) (room k : ℕ) (bs : List ℕ) → raw_write kind first coord comp n xs room ≡ wrote k bs
+      → raw_reading (format kind first coord comp n) bs ≡ xs
+  reads_back xs room k bs e =
+      let a = accepted kind first coord comp n xs room k bs e in
       let w = widths_readable_lem first coord comp a.widths in
       let b = accepted_bits kind first coord comp n xs a.bits w.of_first.few_bits w.of_coord.few_bits w.of_comp.few_bits a.are in
       rw a.in_bytes_lem
       (read_back (format kind first coord comp n) (thick first coord comp n w.of_coord.some_bits kind a.thick) xs a.bits b.below a.are)
-
-  module _ (xs : List ℕ) (room k : ℕ) (bs : List ℕ) (e : raw_write kind first coord comp n xs room ≡ wrote k bs) where
-    -- the bytes of an accepted list give exactly that list
-    pub reads_back : raw_reading (format kind first coord comp n) bs ≡ xs
-    reads_back = (back xs k bs (accepted kind first coord comp n xs room k bs e)).0
-
-    -- they are read to their last byte: fewer than 8 bits are left
-    pub written_to_the_last_byte : (fill : ℕ) × (reading_end (format kind first coord comp n) bs + fill ≡ 8 * length bs) × (fill < 8)
-    written_to_the_last_byte =
-        let a = accepted kind first coord comp n xs room k bs e in
-        let l : ℕ = length a.bits in
-        let end = (back xs k bs a).1 in
-        let size = ap length a.in_bytes_lem ∙ length-bytes a.bits in
-        (8 * byte_count l - l, omega arith, omega arith)
 
   -- no two different accepted lists share bytes
   pub no_two_share : (xs ys : List ℕ) (room room' k k' : ℕ) (bs : List ℕ) → raw_write kind first coord comp n xs room ≡ wrote k bs
@@ -86,11 +71,8 @@ read_cut kind first coord comp n xs room k bs room' cut e h =
     rw (a.widths, le-ltb most_components n a.components, le-ltb most_bytes (length (take cut bs)) size, le-ltb room' _ (le_trans IsFew h))
 
 -- the raw writer accepted xs, and the raw reader is lent the first of the bytes that it wrote, up to a cut, and room for the list
-module _ (kind : Kind) (first coord comp n : ℕ) (xs entry exit entry' exit' : List ℕ) (r : Answer) (r' : Reading)
+module _ (kind : Kind) (first coord comp n : ℕ) (xs entry exit entry' exit' : List ℕ) (r r' : Answer)
     (d : Done (raw_write kind first coord comp n xs (length entry)) entry r exit) (z : (told r).refused ≡ 0) (h : length xs ≤ length entry') where
-  abbrev F : Format
-  F = format kind first coord comp n
-
   written : (k : ℕ) × (bs : List ℕ) × (raw_write kind first coord comp n xs (length entry) ≡ wrote k bs)
       × ((told r).count ≡ k) × (exit ≡ bs ++ drop (length bs) entry)
   written = not_refused (raw_write kind first coord comp n xs (length entry)) d z
@@ -104,61 +86,48 @@ module _ (kind : Kind) (first coord comp n : ℕ) (xs entry exit entry' exit' : 
       ap length a.in_bytes_lem ∙ sym a.count ∙ sym written.3
 
   abbrev reading : ℕ → List ℕ
-  reading cut = raw_reading F (take cut bs)
+  reading cut = raw_reading (format kind first coord comp n) (take cut bs)
 
-  -- it gives the reading of those bytes, and where that ends
-  up_to : (cut : ℕ) → cut ≤ (told r).count → DoneReading (read_raw kind first coord comp n (take cut exit) (length entry')) entry' r' exit'
-      → DoneReading (record { outcome = wrote (length (reading cut)) (reading cut); end = reading_end F (take cut bs) }) entry' r' exit'
+  -- it gives the reading of those bytes
+  up_to : (cut : ℕ) → cut ≤ (told r).count → Done (raw_read kind first coord comp n (take cut exit) (length entry')) entry' r' exit'
+      → Done (wrote (length (reading cut)) (reading cut)) entry' r' exit'
   up_to cut c d' =
       let front : take cut exit ≡ take cut bs = ap (take cut) written.4 ∙ take-append-le cut bs (drop (length bs) entry) (omega (arith, size)) in
-      let o : raw_read kind first coord comp n (take cut bs) (length entry') ≡ wrote (length (reading cut)) (reading cut) =
-      read_cut kind first coord comp n xs (length entry) written.0 bs (length entry') cut written.2 h in
-      subst (λ (x : Outcome ℕ). DoneReading (record { outcome = x; end = reading_end F (take cut bs) }) entry' r' exit') o
-      (subst (λ (s : List ℕ). DoneReading (read_raw kind first coord comp n s (length entry')) entry' r' exit') front d')
-
-  all_bytes : take (told r).count bs ≡ bs
-  all_bytes = take_all (told r).count bs (omega (arith, size))
+      let o : raw_read kind first coord comp n (take cut exit) (length entry') ≡ wrote (length (reading cut)) (reading cut) =
+      ap (λ (s : List ℕ). raw_read kind first coord comp n s (length entry')) front
+      ∙ read_cut kind first coord comp n xs (length entry) written.0 bs (length entry') cut written.2 h in
+      subst (λ (x : Outcome ℕ). Done x entry' r' exit') o d'
 
   whole_is_list : reading (told r).count ≡ xs
-  whole_is_list = ap (raw_reading F) all_bytes ∙ reads_back kind first coord comp n xs (length entry) written.0 bs written.2
-
-  whole-ends : (fill : ℕ) × (reading_end F (take (told r).count bs) + fill ≡ 8 * (told r).count) × (fill < 8)
-  whole-ends = rw (all_bytes, ← size) (written_to_the_last_byte kind first coord comp n xs (length entry) written.0 bs written.2)
+  whole_is_list =
+      ap (raw_reading (format kind first coord comp n)) (take_all (told r).count bs (omega (arith, size)))
+      ∙ reads_back kind first coord comp n xs (length entry) written.0 bs written.2
 
   cut_is_beginning : (cut : ℕ) → Begins (reading cut) xs
   cut_is_beginning = cut_gives_beginning kind first coord comp n xs (length entry) written.0 bs written.2
 
--- the raw reader, lent the bytes that the raw writer wrote and room for the list, answers and leaves the list, and ends within the last byte
-pub reader_after_writer : (kind : Kind) (first coord comp n : ℕ) (xs entry exit entry' exit' : List ℕ) (r : Answer) (r' : Reading)
+-- the raw reader, lent the bytes that the raw writer wrote and room for the list, answers and leaves the list
+pub reader_after_writer : (kind : Kind) (first coord comp n : ℕ) (xs entry exit entry' exit' : List ℕ) (r r' : Answer)
     → Done (raw_write kind first coord comp n xs (length entry)) entry r exit → (told r).refused ≡ 0
-    → DoneReading (read_raw kind first coord comp n (take (told r).count exit) (length entry')) entry' r' exit' → length xs ≤ length entry'
-    → (fill : ℕ) × (fill < 8) × ((told_reading r').refused ≡ 0) × ((told_reading r').count ≡ length xs)
-    × ((told_reading r').end + fill ≡ 8 * (told r).count) × (exit' ≡ xs ++ drop (length xs) entry')
+    → Done (raw_read kind first coord comp n (take (told r).count exit) (length entry')) entry' r' exit' → length xs ≤ length entry'
+    → (told r' ≡ record { refused = 0; count = length xs }) × (exit' ≡ xs ++ drop (length xs) entry')
 reader_after_writer kind first coord comp n xs entry exit entry' exit' r r' d z d' h =
-    let done = up_to kind first coord comp n xs entry exit entry' exit' r r' d z h (told r).count (le_refl (told r).count) d' in
+    let read = up_to kind first coord comp n xs entry exit entry' exit' r r' d z h (told r).count (le_refl (told r).count) d' in
     let all = whole_is_list kind first coord comp n xs entry exit entry' exit' r r' d z h in
-    let ends = whole-ends kind first coord comp n xs entry exit entry' exit' r r' d z h in (
-      ends.0,
-      ends.2,
-      ap (λ (t : ToldReading). t.refused) done.answered,
-      ap (λ (t : ToldReading). t.count) done.answered ∙ ap length all,
-      ap (λ (t : ToldReading). t.end + ends.0) done.answered ∙ ends.1,
-      done.held ∙ ap (λ (l : List ℕ). l ++ drop (length l) entry') all,
-    )
+    let done : Done (wrote (length xs) xs) entry' r' exit' = subst (λ (l : List ℕ). Done (wrote (length l) l) entry' r' exit') all read in
+    (done.answered, done.held)
 
 -- lent only the first of those bytes, up to any cut, it answers no refusal, and leaves a beginning of the list, with what was there after it
-pub cut_reader_after_writer : (kind : Kind) (first coord comp n : ℕ) (xs entry exit entry' exit' : List ℕ) (r : Answer) (r' : Reading) (cut : ℕ)
+pub cut_reader_after_writer : (kind : Kind) (first coord comp n : ℕ) (xs entry exit entry' exit' : List ℕ) (r r' : Answer) (cut : ℕ)
     → Done (raw_write kind first coord comp n xs (length entry)) entry r exit → (told r).refused ≡ 0 → cut ≤ (told r).count
-    → DoneReading (read_raw kind first coord comp n (take cut exit) (length entry')) entry' r' exit' → length xs ≤ length entry'
-    → let k : ℕ = (told_reading r').count in
-    ((told_reading r').refused ≡ 0) × Begins (take k exit') xs × (exit' ≡ take k exit' ++ drop k entry')
+    → Done (raw_read kind first coord comp n (take cut exit) (length entry')) entry' r' exit' → length xs ≤ length entry'
+    → ((told r').refused ≡ 0) × Begins (take (told r').count exit') xs × (exit' ≡ take (told r').count exit' ++ drop (told r').count entry')
 cut_reader_after_writer kind first coord comp n xs entry exit entry' exit' r r' cut d z c d' h =
     let done = up_to kind first coord comp n xs entry exit entry' exit' r r' d z h cut c d' in
     let ys : List ℕ = reading kind first coord comp n xs entry exit entry' exit' r r' d z h cut in
-    let k : ℕ = (told_reading r').count in
-    let count : k ≡ length ys = ap (λ (t : ToldReading). t.count) done.answered in
-    let front : take k exit' ≡ ys = ap (take k) done.held ∙ take_at ys (drop (length ys) entry') k (sym count) in (
-      ap (λ (t : ToldReading). t.refused) done.answered,
+    let count : (told r').count ≡ length ys = ap (λ (t : Told). t.count) done.answered in
+    let front : take (told r').count exit' ≡ ys = ap (take (told r').count) done.held ∙ take_at ys (drop (length ys) entry') (told r').count (sym count) in (
+      ap (λ (t : Told). t.refused) done.answered,
       subst (λ (l : List ℕ). Begins l xs) (sym front) (cut_is_beginning kind first coord comp n xs entry exit entry' exit' r r' d z h cut),
-      done.held ∙ ap₂ (λ (l : List ℕ) (j : ℕ). l ++ drop j entry') (sym front) (sym count),
+      done.held ∙ ap₂ (λ (l : List ℕ) (k : ℕ). l ++ drop k entry') (sym front) (sym count),
     )

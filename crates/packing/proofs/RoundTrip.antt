@@ -1,8 +1,8 @@
--- The raw reading of an accepted list's bits gives the list back, and nothing more, and ends after these bits. Assumes nothing.
+-- The raw reading of an accepted list's bits gives the list back, and nothing more. Assumes nothing.
 use mathlib.Core.Path.{◌≡◌, refl, sym, ap, ◌∙◌, subst}
 use mathlib.Core.Bool.{Bool, true, false}
 use mathlib.Core.List.{List, [], ◌∷◌, ◌++◌, append_assoc}
-use mathlib.Core.Option.{Option, none, some, none-ne-some, some-injective}
+use mathlib.Core.Option.{Option, some, none-ne-some, some-injective}
 use Prim.Native.Nat.{ℕ, zero, suc, ◌+◌, ◌*◌, ◌≤◌, ◌<◌}
 use native.Mathlib.Nat.{mul-le-mul, le_refl}
 use native.Mathlib.Omega.{arith}
@@ -16,10 +16,9 @@ use Rattle.records.specs.declared.shape.Kind.{Kind}
 use Rattle.records.specs.declared.shape.Kind.TheVariants.{Four, Five, Six, Seven}
 use Rattle.records.specs.declared.shape.Shape.{Shape}
 use Rattle.records.specs.declared.shape.Shape.TheVariants.{Follows, Ends}
-use Rattle.records.specs.Format.{Format, format, patch_shape, shape_of, sum, numbers, next, readings, raw_reading, taken, reading_end}
+use Rattle.records.specs.Format.{Format, format, patch_shape, shape_of, sum, numbers, next, readings, raw_reading}
 use Rattle.records.proofs.Shapes.{every_patch}
 use Rattle.records.proofs.Readings.{sum-append, sum-replicate, next_fits, next_none, readings_none, readings_some}
-use Rattle.records.proofs.Ends.{taken_none, taken_some}
 use Rattle.packing.specs.Packed.{bytes, packed}
 use Rattle.packing.specs.Writer.{thin}
 use Rattle.packing.proofs.Shapes.{follows_some}
@@ -74,27 +73,19 @@ abbrev pub Thick : Format → Type 0
 Thick F = (started : Bool) (x : ℕ) (due : List ℕ) → F.more started x ≡ some due → 8 ≤ F.first + sum due
 
 -- fewer than 8 bits hold no record
-quiet : (F : Format) → Thick F → (started : Bool) (b : List ℕ) → length b < 8 → next F started b ≡ none
-quiet F th started b h = next_none F started b (λ due e. omega (arith, th started (number (take F.first b)) due e))
+quiet : (F : Format) → Thick F → (k : ℕ) (started : Bool) (b : List ℕ) → length b < 8 → readings F k started b ≡ []
+quiet F th k started b h =
+    readings_none F k started b (next_none F started b (λ due e. omega (arith, th started (number (take F.first b)) due e)))
 
 nothing-packed : (F : Format) (started : Bool) (bits : List ℕ) → packed F started [] [] ≡ some bits → [] ≡ bits
 unfolding packed
 nothing-packed F started bits e = some-injective [] bits e
 
--- bits that are read back as xs, with what fills the last byte after them
-abbrev ReadBack : Format → ℕ → Bool → List ℕ → List ℕ → List ℕ → Type 0
-ReadBack F k started xs bits pad = (readings F k started (bits ++ pad) ≡ xs) × (taken F k started (bits ++ pad) ≡ length bits)
-
-none_packed : (F : Format) → Thick F → (k : ℕ) (started : Bool) (bits pad : List ℕ) → packed F started [] [] ≡ some bits → length pad < 8
-    → ReadBack F k started [] bits pad
-none_packed F th k started bits pad e h =
-    let q = quiet F th started pad h in rw (← nothing-packed F started bits e) (readings_none F k started pad q, taken_none F k started pad q)
-
 readings-packed : (F : Format) → Thick F → (k : ℕ) (started : Bool) (xs bits pad : List ℕ) → packed F started [] xs ≡ some bits → length pad < 8
-    → length (bits ++ pad) ≤ k → ReadBack F k started xs bits pad
+    → length (bits ++ pad) ≤ k → readings F k started (bits ++ pad) ≡ xs
 unfolding numbers sum
-readings-packed F th zero started [] bits pad e h l = none_packed F th zero started bits pad e h
-readings-packed F th (suc k) started [] bits pad e h l = none_packed F th (suc k) started bits pad e h
+readings-packed F th zero started [] bits pad e h l = rw (← nothing-packed F started bits e) (quiet F th zero started pad h)
+readings-packed F th (suc k) started [] bits pad e h l = rw (← nothing-packed F started bits e) (quiet F th (suc k) started pad h)
 readings-packed F th zero started (x ∷ xs) bits pad e h l =
     let r = record_some F started x xs bits e in
     let b = read_due F true r.0 xs r.2.rest pad r.2.after in
@@ -109,19 +100,16 @@ readings-packed F th (suc k) started (x ∷ xs) bits pad e h l =
     next_fits F started (bits ++ pad) due (ap (F.more started) (read_first f pad) ∙ r.1) (omega (arith, all, read_length f pad, b.size)) in
     let on : drop (F.first + sum due) (bits ++ pad) ≡ b.rest ++ pad =
     sym (drop-drop (sum due) F.first (bits ++ pad)) ∙ ap (drop (sum due)) (read_rest f pad) ∙ b.after in
-    let after : ReadBack F k true b.zs b.rest pad =
-    readings-packed F th k true b.zs b.rest pad b.left h
-    (omega (arith, l, all, length-append b.rest pad, read_length f pad, b.size, th started x due r.1)) in (
-      readings_some F k started (bits ++ pad) (F.first ∷ due) here
-          ∙ rw (read_first f pad, read_rest f pad, on) (ap (λ (l : List ℕ). x ∷ (numbers due (f.rest ++ pad) ++ l)) after.0)
-          ∙ ap (λ (l : List ℕ). x ∷ l) (sym b.are),
-      taken_some F k started (bits ++ pad) (F.first ∷ due) here ∙ rw (on, after.1) (omega (arith, read_length f pad, b.size)),
-    )
+    readings_some F k started (bits ++ pad) (F.first ∷ due) here
+    ∙ rw (read_first f pad, read_rest f pad, on)
+    (ap (λ (l : List ℕ). x ∷ (numbers due (f.rest ++ pad) ++ l))
+    (readings-packed F th k true b.zs b.rest pad b.left h
+    (omega (arith, l, all, length-append b.rest pad, read_length f pad, b.size, th started x due r.1))))
+    ∙ ap (λ (l : List ℕ). x ∷ l) (sym b.are)
 
--- the bytes of an accepted list are read back as the list, up to the zeros that fill the last
-pub read_back : (F : Format) → Thick F → (xs bits : List ℕ) → AllBelow 2 bits → packed F false [] xs ≡ some bits
-    → (raw_reading F (bytes bits) ≡ xs) × (reading_end F (bytes bits) ≡ length bits)
-unfolding raw_reading reading_end
+-- the bytes of an accepted list are read back as the list
+pub read_back : (F : Format) → Thick F → (xs bits : List ℕ) → AllBelow 2 bits → packed F false [] xs ≡ some bits → raw_reading F (bytes bits) ≡ xs
+unfolding raw_reading
 read_back F th xs bits p e =
     rw (stream-bytes bits p)
     (readings-packed F th (length (bits ++ filler (length bits))) false xs bits (filler (length bits)) e (length-filler (length bits))

@@ -2,7 +2,6 @@ pub mod Found
 pub mod Records
 pub mod NextPatch
 pub mod Walk
-pub mod Positions
 pub mod Copying
 pub mod Placing
 pub mod Starting

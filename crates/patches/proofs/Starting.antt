@@ -7,16 +7,10 @@ use native.Mathlib.Omega.{arith}
 use lib.ListN.{length}
 use lib.Ieee.{Float}
 use Rattle.lists.specs.Lists.{All}
-use Rattle.answers.specs.declared.Answer.TheVariants.{Wrote}
-use Rattle.answers.specs.declared.Reading.{Reading}
-use Rattle.answers.specs.declared.Reading.TheVariants.{Read, Refused}
 use Rattle.answers.specs.Limits.{most_components, most_bytes, most_numbers}
-use Rattle.answers.specs.Outcome.{Done, DoneReading}
-use Rattle.answers.specs.Inner.Ends.{without_end}
-use Rattle.answers.proofs.ReadOutcomes.{done_at, refused_at}
 use Rattle.decode.specs.Decode.{Ranges, ranges}
 use Rattle.records.specs.declared.layout.FlagWidth.TheVariants.{Bits}
-use Rattle.records.specs.Format.{reading_end}
+use Rattle.records.specs.Format.{Meaning}
 use Rattle.records.specs.Layout.{layout_readable}
 use Rattle.records.proofs.Layouts.{layout-widths}
 use Rattle.rows.specs.Inner.Layouts.{masked, range_list, held_ranges}
@@ -26,7 +20,7 @@ use Rattle.rules.specs.Inner.Sides.{Fits}
 use Rattle.rules.specs.Meshes.{Finished, patch_mesh}
 use Rattle.rules.proofs.Tables.{sides_fit}
 use Rattle.meshes.specs.Decoded.{by_decode}
-use Rattle.meshes.specs.Outcomes.{fitted_mesh, raw_of, end_of}
+use Rattle.meshes.specs.Outcomes.{fitted_mesh, Stream, raw_of}
 use Rattle.meshes.proofs.Endings.{accepted, list_accepted}
 use Rattle.meshes.proofs.Ranges.{patches_alike}
 use Rattle.patches.specs.declared.Form.{Form}
@@ -34,8 +28,8 @@ use Rattle.patches.specs.declared.Form.TheVariants.{Coons, Tensor}
 use Rattle.patches.specs.declared.sides.Sides.{Sides}
 use Rattle.patches.specs.declared.sides.Sides.TheVariants.{Border, Grid}
 use Rattle.patches.specs.declared.finding.Records.{Records}
-use Rattle.patches.specs.Inner.Forms.{own_of, table_of, form_stream, parsed_form, read_form, built_form}
-use Rattle.patches.specs.Inner.Records.{RecordsThere, Suits, bit_format, finished_of, EndOf}
+use Rattle.patches.specs.Inner.Forms.{type_of_form, own_of, table_of, parsed_form, built_form}
+use Rattle.patches.specs.Inner.Records.{RecordsThere, Suits, finished_of}
 
 -- ---- the records of a call
 
@@ -120,6 +114,10 @@ unfolding built_form finished_of
 list_outcome table form own n s vs entry R e IsFew short =
     rw e (sym (list_accepted (patch_mesh (table_of table) (own_of form)) n vs entry IsFew short))
 
+abbrev stream_of : Form → Meaning → ℕ → ℕ → ℕ → List Float → ℕ → Stream
+stream_of form meaning coord comp flag entries n =
+    record { kind = type_of_form form; meaning = meaning; flag = Bits flag; coord = coord; comp = comp; entries = entries; n = n }
+
 module _ (flag mask coord comp n : ℕ) (entries : List Float) (s : List ℕ) (vs entry : List Float)
     (lay : layout_readable coord comp (Bits flag) (length entries) ≡ true) (IsFew : n ≤ most_components) (short : length s ≤ most_bytes) where
   -- the ranges of the list are Decode's, as far as a record has kinds
@@ -136,23 +134,9 @@ module _ (flag mask coord comp n : ℕ) (entries : List Float) (s : List ℕ) (v
   unfolding parsed_form finished_of
   bits-outcome Coons own e =
       rw e
-      (ap (λ (M : Finished Float). fitted_mesh M (length entry)) (same 8 (raw_of (form_stream Coons (masked mask) coord comp flag entries n) s) sides_fit.0)
-      ∙ sym (accepted (form_stream Coons (masked mask) coord comp flag entries n) (patch_mesh sides 8) s entry lay IsFew short))
+      (ap (λ (M : Finished Float). fitted_mesh M (length entry)) (same 8 (raw_of (stream_of Coons (masked mask) coord comp flag entries n) s) sides_fit.0)
+      ∙ sym (accepted (stream_of Coons (masked mask) coord comp flag entries n) (patch_mesh sides 8) s entry lay IsFew short))
   bits-outcome Tensor own e =
       rw e
-      (ap (λ (M : Finished Float). fitted_mesh M (length entry)) (same 12 (raw_of (form_stream Tensor (masked mask) coord comp flag entries n) s) sides_fit.1)
-      ∙ sym (accepted (form_stream Tensor (masked mask) coord comp flag entries n) (patch_mesh sides 12) s entry lay IsFew short))
-
-  bits-end : (form : Form) (own : ℕ) → own ≡ own_of form
-      → end_of (form_stream form (masked mask) coord comp flag entries n) s ≡ reading_end (bit_format (bit_records flag mask coord comp own n s)) s
-  bits-end Coons own e = rw e
-  bits-end Tensor own e = rw e
-
-  -- the reading, with the position where its records end
-  pub bits_done : (form : Form) (own : ℕ) → own ≡ own_of form → (r : Reading) {exit : List Float}
-      → Done (fitted_mesh (finished_of sides (bit_records flag mask coord comp own n s) s vs (held_ranges (range_list entries coord comp))) (length entry)) entry (without_end r) exit
-      → EndOf (bit_records flag mask coord comp own n s) s r
-      → DoneReading (read_form form (masked mask) s coord comp flag entries n (length entry)) entry r exit
-  bits_done form own e (Read count end) d h =
-      rw (bits-end form own e, ← (h.in_bits refl)) (done_at (Wrote count) end (rw (bits-outcome form own e) at d))
-  bits_done form own e (Refused r) d h = refused_at r _ (rw (bits-outcome form own e) at d)
+      (ap (λ (M : Finished Float). fitted_mesh M (length entry)) (same 12 (raw_of (stream_of Tensor (masked mask) coord comp flag entries n) s) sides_fit.1)
+      ∙ sym (accepted (stream_of Tensor (masked mask) coord comp flag entries n) (patch_mesh sides 12) s entry lay IsFew short))

@@ -1,10 +1,9 @@
 -- The two walks over the records of a mesh: counting the patches, and writing them. Assumes nothing.
 use Prim.Native.Nat.{ℕ, ◌+◌, ◌-◌, ◌*◌, ◌≤◌}
-use mathlib.Core.Path.{◌≡◌, refl, sym, ap, ◌∙◌}
+use mathlib.Core.Path.{◌≡◌, refl, ap, ◌∙◌}
 use mathlib.Core.Bool.{true}
 use mathlib.Core.List.{List, ◌++◌}
 use mathlib.Core.Option.{Option, none, some}
-use native.Mathlib.Nat.{zero-add}
 use native.Mathlib.Omega.{arith}
 use lib.ListN.{length, take, drop}
 use lib.Seq.{length-take-le}
@@ -22,7 +21,7 @@ use Rattle.rules.proofs.RawReading.{there}
 use Rattle.meshes.proofs.PatchRecords.{RowPatch, row_of, highest}
 use Rattle.patches.specs.declared.finding.Records.{Records}
 use Rattle.patches.specs.declared.finding.Found.TheVariants.{Record, End}
-use Rattle.patches.specs.Inner.Records.{RecordsThere, Suits, found_at, patch_size, row_at, finished_of, WrittenAll}
+use Rattle.patches.specs.Inner.Records.{RecordsThere, Suits, found_at, patch_size, row_at, finished_of}
 use Rattle.patches.proofs.Found.{found-whole}
 use Rattle.patches.proofs.Records.{Promised, promised, rest-ends}
 use Rattle.patches.proofs.NextPatch.{Filled, length-row, PatchStands, Next, next-patch}
@@ -94,11 +93,9 @@ module _ {T : Table} {m : Records} {s : List ℕ} {vs : List Float} (suits : Sui
       }
 
   module _ {l o : List Float} {p pos most : ℕ} (w : Walk T m s vs R l o p pos most) where
-    pub walk_end : pos ≤ m.limit → End ≡ found_at m s vs most pos → WrittenAll l o (finished_of T m s vs R).numbers
+    pub walk_end : pos ≤ m.limit → End ≡ found_at m s vs most pos → Written l o 0 (finished_of T m s vs R).numbers p
     unfolding flat
-    walk_end h e =
-        let all = going_end (rw (rest-ends w.records w.before pos h (rw w.top at e)) at w.going) in
-        record { held = all.held; room = all.room; after = sym (zero-add _) }
+    walk_end h e = going_end (rw (rest-ends w.records w.before pos h (rw w.top at e)) at w.going)
 
     module _ (f : ℕ) (next : Place) (e : Record f next ≡ found_at m s vs most pos) where
       pub walk_flag : f ≤ 3

@@ -2,17 +2,17 @@
 // sources of records: bits, and a list of numbers.
 ghost use Rattle.std.specs.Prelude.{◌≡◌, length, ◌+◌};
 ghost use Rattle.lists.specs.Lists.{All};
-ghost use Rattle.answers.specs.Outcome.{Done, DoneReading};
+ghost use Rattle.answers.specs.Outcome.{Done};
 ghost use Rattle.records.specs.Format.{whole_number, two_low_bits};
 ghost use Rattle.rows.specs.Inner.Layouts.{masked};
 ghost use Rattle.rules.specs.Patches.{sides, list_sides};
 ghost use Rattle.rules.specs.Inner.Sides.{Fits};
-ghost use Rattle.meshes.specs.Outcomes.{read6, read7, build6, build7};
-ghost use Rattle.patches.specs.Inner.Forms.{own_of, table_of, read_form, built_form};
+ghost use Rattle.meshes.specs.Outcomes.{parse6, parse7, build6, build7};
+ghost use Rattle.patches.specs.Inner.Forms.{own_of, table_of, parsed_form, built_form};
 
 use crate::finding::Records;
 use crate::sides::Sides;
-use answers::{Answer, Reading, Refusal};
+use answers::{Answer, Refusal};
 use records::layout::FlagWidth;
 use rows::Layout;
 
@@ -48,17 +48,17 @@ fn parse_patches(
     n: usize,
     form: Form,
     out: &mut [f64],
-) -> Reading
-    ensures { DoneReading (read_form form (masked mask) «data».now coord comp flag decode.now n (length out.old)) out.old result out.new }
+) -> Answer
+    ensures { Done (parsed_form form (masked mask) «data».now coord comp flag decode.now n (length out.old)) out.old result out.new }
 {
     if !records::layout::mesh_layout_is_readable(coord, comp, FlagWidth::Bits(flag), decode.len()) {
-        return Reading::Refused(Refusal::Layout);
+        return Answer::Refused(Refusal::Layout);
     }
     if n > answers::MOST_COMPONENTS {
-        return Reading::Refused(Refusal::Components);
+        return Answer::Refused(Refusal::Components);
     }
     if data.len() > answers::MOST_BYTES {
-        return Reading::Refused(Refusal::Length);
+        return Answer::Refused(Refusal::Length);
     }
     let layout = Layout {
         listed: false,
@@ -67,12 +67,11 @@ fn parse_patches(
         comp,
         n,
     };
-    let limit = 8 * data.len();
     let records = Records {
         layout,
         mask,
         own: own_points(form),
-        limit,
+        limit: 8 * data.len(),
     };
     writing::patches(data, &decode[0..0], decode, records, Sides::Border, out)
 }
@@ -101,8 +100,7 @@ fn build_patches(values: &[f64], n: usize, form: Form, sides: Sides, out: &mut [
         limit: values.len(),
     };
     let none = [0u8; 1];
-    let reading = writing::patches(&none, values, &values[0..0], records, sides, out);
-    answers::answer_of(reading)
+    writing::patches(&none, values, &values[0..0], records, sides, out)
 }
 
 // ---- from bytes
@@ -117,8 +115,8 @@ pub fn parse_type6_patches(
     decode: &[f64],
     n: usize,
     out: &mut [f64],
-) -> Reading
-    ensures { DoneReading (read6 whole_number sides «data».now coord comp flag decode.now n (length out.old)) out.old result out.new }
+) -> Answer
+    ensures { Done (parse6 whole_number sides «data».now coord comp flag decode.now n (length out.old)) out.old result out.new }
 {
     parse_patches(
         data,
@@ -141,8 +139,8 @@ pub fn parse_type7_patches(
     decode: &[f64],
     n: usize,
     out: &mut [f64],
-) -> Reading
-    ensures { DoneReading (read7 whole_number sides «data».now coord comp flag decode.now n (length out.old)) out.old result out.new }
+) -> Answer
+    ensures { Done (parse7 whole_number sides «data».now coord comp flag decode.now n (length out.old)) out.old result out.new }
 {
     parse_patches(
         data,
@@ -167,8 +165,8 @@ pub fn published_type6_patches(
     decode: &[f64],
     n: usize,
     out: &mut [f64],
-) -> Reading
-    ensures { DoneReading (read6 two_low_bits sides «data».now coord comp flag decode.now n (length out.old)) out.old result out.new }
+) -> Answer
+    ensures { Done (parse6 two_low_bits sides «data».now coord comp flag decode.now n (length out.old)) out.old result out.new }
 {
     parse_patches(
         data,
@@ -191,8 +189,8 @@ pub fn published_type7_patches(
     decode: &[f64],
     n: usize,
     out: &mut [f64],
-) -> Reading
-    ensures { DoneReading (read7 two_low_bits sides «data».now coord comp flag decode.now n (length out.old)) out.old result out.new }
+) -> Answer
+    ensures { Done (parse7 two_low_bits sides «data».now coord comp flag decode.now n (length out.old)) out.old result out.new }
 {
     parse_patches(
         data,

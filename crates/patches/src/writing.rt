@@ -5,19 +5,17 @@ ghost use Rattle.std.proofs.Math.Option.{some};
 ghost use Rattle.lists.specs.Lists.{AllBelow, flat};
 ghost use Rattle.lists.specs.Writing.{Written};
 ghost use Rattle.answers.specs.Outcome.{Done};
-ghost use Rattle.answers.specs.Inner.Ends.{without_end};
 ghost use Rattle.decode.specs.Decode.{Ranges};
 ghost use Rattle.rows.specs.Inner.Layouts.{held_ranges, range_list};
 ghost use Rattle.rules.specs.Patches.{Table};
 ghost use Rattle.rules.specs.Inner.Sides.{Fits};
 ghost use Rattle.meshes.specs.Outcomes.{fitted_mesh};
 ghost use Rattle.patches.specs.Inner.Forms.{table_of, places_of};
-ghost use Rattle.patches.specs.Inner.Records.{RecordsThere, Suits, size_of, points_from, colours_from, patch_size, point_in, colour_in, with_side, row_at, finished_of, WrittenAll, EndsAt, EndOf};
+ghost use Rattle.patches.specs.Inner.Records.{RecordsThere, Suits, size_of, points_from, colours_from, patch_size, point_in, colour_in, with_side, row_at, finished_of};
 
 use crate::finding::{Found, Records, find_record};
 use crate::sides::{Side, Sides, side_of};
-use answers::{Reading, Refusal};
-use bits::BitPos;
+use answers::{Answer, Refusal};
 use rows::Place;
 
 // ---- the side of the patch before
@@ -155,7 +153,6 @@ fn count_patches(data: &[u8], values: &[f64], records: Records) -> usize
     }
 }
 
-// Writes all patches; answers the place after the last record.
 fn write_patches(
     data: &[u8],
     values: &[f64],
@@ -163,17 +160,16 @@ fn write_patches(
     ranges: &[f64; 68],
     sides: Sides,
     out: &mut [f64],
-) -> Place
+) -> usize
     requires { (RecordsThere records «data».now values.now) × (Suits (table_of sides) records) × (length (finished_of (table_of sides) records «data».now values.now (held_ranges ranges.now)).numbers ≤ length out.old) }
-    ensures ends_at { EndsAt records «data».now result.0 }
-    ensures written_all { WrittenAll out.old out.new (finished_of (table_of sides) records «data».now values.now (held_ranges ranges.now)).numbers }
+    ensures { Written out.old out.new 0 (finished_of (table_of sides) records «data».now values.now (held_ranges ranges.now)).numbers result }
 {
     let mut at: usize = 0;
     let mut place = Place(0);
     let mut most: usize = 0; // only a patch joined to no other may come first
     loop {
         let Found::Record(flag, next) = find_record(data, values, records, most, place) else {
-            return place;
+            return at;
         };
         at = write_patch(data, values, records, ranges, sides, flag, place, out, at);
         place = next;
@@ -181,7 +177,7 @@ fn write_patches(
     }
 }
 
-// The patches, if there is room for them, and the place after the last record. Decode's ranges are worked out only then.
+// The patches, if there is room for them. Decode's ranges are worked out only then.
 pub fn patches(
     data: &[u8],
     values: &[f64],
@@ -189,19 +185,18 @@ pub fn patches(
     records: Records,
     sides: Sides,
     out: &mut [f64],
-) -> Reading
+) -> Answer
     requires { (RecordsThere records «data».now values.now) × (Suits (table_of sides) records) }
-    ensures done { Done (fitted_mesh (finished_of (table_of sides) records «data».now values.now (held_ranges (range_list decode.now records.layout.coord records.layout.comp))) (length out.old)) out.old (without_end result) out.new }
-    ensures end_of { EndOf records «data».now result }
+    ensures { Done (fitted_mesh (finished_of (table_of sides) records «data».now values.now (held_ranges (range_list decode.now records.layout.coord records.layout.comp))) (length out.old)) out.old result out.new }
 {
     let layout = records.layout;
     let count = count_patches(data, values, records);
     let needed = count * ((4 + records.own) * 2 + 4 * (8 + layout.n));
     if out.len() < needed {
-        return Reading::Refused(Refusal::Room(needed));
+        return Answer::Refused(Refusal::Room(needed));
     }
     let mut ranges = [0.0; 68];
     rows::fill_ranges(layout, decode, &mut ranges);
-    let end = write_patches(data, values, records, &ranges, sides, out);
-    Reading::Read(count, BitPos(end.0))
+    write_patches(data, values, records, &ranges, sides, out);
+    Answer::Wrote(count)
 }

@@ -1,4 +1,4 @@
--- Bits with the upper bits of their flags cleared have the records that the published reading finds, and end where it ends. Assumes nothing.
+-- Bits with the upper bits of their flags cleared have the records that the published reading finds. Assumes nothing.
 use mathlib.Core.Path.{◌≡◌, refl, sym, ap, ◌∙◌}
 use mathlib.Core.Bool.{Bool, true}
 use mathlib.Core.List.{List, ◌∷◌, ◌++◌}
@@ -17,10 +17,10 @@ use Rattle.lists.proofs.Members.{all_take, all_drop}
 use Rattle.bits.specs.Bits.{bits_of, number}
 use Rattle.bits.proofs.Digits.{number-bits, number_below, bits_of_number, drop_bits}
 use Rattle.records.specs.declared.shape.Kind.{Kind}
-use Rattle.records.specs.Format.{sum, numbers, Meaning, two_low_bits, Format, format_by, next, readings, taken}
+use Rattle.records.specs.Format.{sum, numbers, Meaning, two_low_bits, Format, format_by, next, readings}
 use Rattle.records.specs.Flags.{lowered, cleared}
 use Rattle.records.proofs.Readings.{numbers-append, next-size}
-use Rattle.records.proofs.Meanings.{size_by, Alike, alike_none, alike_step, taken_step}
+use Rattle.records.proofs.Meanings.{size_by, Alike, alike_none, alike_step}
 
 -- ---- a flag
 
@@ -135,12 +135,6 @@ module _ (F : Format) (k : ℕ) (started : Bool) (b : List ℕ) where
 
 -- The published reading has the records that a reading of the cleared bits has, where a flag below 4 means itself.
 module _ (kind : Kind) (first coord comp n : ℕ) (flag' : Meaning) (fixed : (x : ℕ) → x < 4 → flag' x ≡ x) where
-  cleared_means : (k : ℕ) (started : Bool) (b : List ℕ) → AllBelow 2 b → first ≤ length b
-      → number (take first b) % 4 ≡ flag' (number (take first (cleared (format_by two_low_bits kind first coord comp n) (suc k) started b)))
-  cleared_means k started b p h =
-      rw (cleared-number (format_by two_low_bits kind first coord comp n) k started b p h)
-      (sym (fixed (number (take first b) % 4) (mod-lt (number (take first b)) (lit< tt))))
-
   pub cleared_alike : (k : ℕ) (started : Bool) (b : List ℕ) → AllBelow 2 b
       → let F : Format = format_by two_low_bits kind first coord comp n in
       Alike two_low_bits flag' (size_by kind n) (readings F k started b)
@@ -150,21 +144,9 @@ module _ (kind : Kind) (first coord comp n : ℕ) (flag' : Meaning) (fixed : (x 
   cleared_alike (suc k) started b p =
       let F : Format = format_by two_low_bits kind first coord comp n in
       alike_step kind first coord comp n two_low_bits flag' k started b (cleared F (suc k) started b) (sym (length-cleared F (suc k) started b))
-      (cleared_means k started b p)
+      (λ h. rw (cleared-number F k started b p h) (sym (fixed (number (take first b) % 4) (mod-lt (number (take first b)) (lit< tt)))))
       (λ ws e. (
         cleared-numbers F k started b ws e,
         rw (cleared-rest F k started b ws e)
             (cleared_alike k true (drop (first + sum ws) b) (all_drop (λ (x : ℕ). x < 2) (first + sum ws) b p)),
       ))
-
-  pub cleared-taken : (k : ℕ) (started : Bool) (b : List ℕ) → AllBelow 2 b
-      → let F : Format = format_by two_low_bits kind first coord comp n in
-      taken F k started b ≡ taken (format_by flag' kind first coord comp n) k started (cleared F k started b)
-  unfolding taken
-  cleared-taken zero started b p = refl
-  cleared-taken (suc k) started b p =
-      let F : Format = format_by two_low_bits kind first coord comp n in
-      taken_step kind first coord comp n two_low_bits flag' k started b (cleared F (suc k) started b) (sym (length-cleared F (suc k) started b))
-      (cleared_means k started b p)
-      (λ ws e. rw (cleared-rest F k started b ws e)
-      (cleared-taken k true (drop (first + sum ws) b) (all_drop (λ (x : ℕ). x < 2) (first + sum ws) b p)))

@@ -1,4 +1,4 @@
--- Types 4 and 5, where all records have the same size: as many are read as the bits hold, and the reading ends after them. Assumes nothing.
+-- Types 4 and 5, where all records have the same size: as many are read as the bits hold. Assumes nothing.
 use Prim.Native.Nat.{ℕ, zero, suc, ◌+◌, ◌*◌, ◌/◌, ◌^◌, ◌≤◌, ◌<◌}
 use mathlib.Core.Path.{◌≡◌, refl, sym, ◌∙◌}
 use mathlib.Core.Bool.{Bool, false, true}
@@ -14,9 +14,8 @@ use Rattle.bits.proofs.Streams.{length-stream}
 use Rattle.records.specs.declared.shape.Kind.{Kind}
 use Rattle.records.specs.declared.shape.Kind.TheVariants.{Four, Five}
 use Rattle.records.specs.declared.shape.Shape.TheVariants.{Follows}
-use Rattle.records.specs.Format.{sum, Meaning, Format, shape_of, format_by, format, next, readings, raw_reading, taken, reading_end}
-use Rattle.records.proofs.Readings.{sum-append, sum-replicate, next_none, next_fits}
-use Rattle.records.proofs.Ends.{Adds, adds_bits, adds_numbers}
+use Rattle.records.specs.Format.{sum, Format, shape_of, format, next, readings, raw_reading}
+use Rattle.records.proofs.Readings.{sum-append, sum-replicate, length-numbers, next_none, next_fits, readings_none, readings_some}
 
 -- ---- records that all have the same widths
 
@@ -27,38 +26,27 @@ module _ (F : Format) (ws : List ℕ) (same : (started : Bool) (x : ℕ) → F.m
   pub same_none : (started : Bool) (b : List ℕ) → length b < F.first + sum ws → next F started b ≡ none
   same_none started b h = next_none F started b (λ vs e. rw (← some-injective _ _ (sym (same started _) ∙ e)) h)
 
-  -- what adds up record by record
-  module _ {f : ℕ → Bool → List ℕ → ℕ} {each : List ℕ → ℕ} (a : Adds F f each) where
-    abbrev AsMany : ℕ → Bool → List ℕ → Type 0
-    AsMany k started b = f k started b ≡ length b / (F.first + sum ws) * each (F.first ∷ ws)
+  abbrev AsMany : ℕ → Bool → List ℕ → Type 0
+  AsMany k started b = length (readings F k started b) ≡ length b / (F.first + sum ws) * (1 + length ws)
 
-    many_none : (k : ℕ) (started : Bool) (b : List ℕ) → length b < F.first + sum ws → AsMany k started b
-    many_none k started b h = rw (a.ends k started b (same_none started b h), div-eq_of_lt h, zero-mul)
+  count_none : (k : ℕ) (started : Bool) (b : List ℕ) → length b < F.first + sum ws → AsMany k started b
+  count_none k started b h = rw (readings_none F k started b (same_none started b h), div-eq_of_lt h, zero-mul)
 
-    many_some : (k : ℕ) (started : Bool) (b : List ℕ) → 1 ≤ F.first → F.first + sum ws ≤ length b
-        → AsMany k true (drop (F.first + sum ws) b) → AsMany (suc k) started b
-    unfolding sum
-    many_some k started b p h ih =
-        rw (a.goes k started b (F.first ∷ ws) (same_next started b h), ih, length-drop, div-eq-sub-div (omega arith) h) (omega arith)
-
-    many : 1 ≤ F.first → (k : ℕ) (started : Bool) (b : List ℕ) → length b ≤ k → AsMany k started b
-    many p zero started b h = many_none zero started b (omega arith)
-    many p (suc k) started b h =
-        by_size (dec_le (F.first + sum ws) (length b)) (λ g. many p k true (drop (F.first + sum ws) b) (rw length-drop (omega arith)))
-      where
-        by_size : Dec (F.first + sum ws ≤ length b) → (F.first + sum ws ≤ length b → AsMany k true (drop (F.first + sum ws) b)) → AsMany (suc k) started b
-        by_size (yes g) ih = many_some k started b p g (ih g)
-        by_size (no g) ih = many_none (suc k) started b (lt_of_not-le g)
-
-  count_same : 1 ≤ F.first → (k : ℕ) (started : Bool) (b : List ℕ) → length b ≤ k
-      → length (readings F k started b) ≡ length b / (F.first + sum ws) * length (F.first ∷ ws)
-  count_same = many (adds_numbers F)
-
-  -- the reading ends after the last record that the bits hold
-  pub same_taken : 1 ≤ F.first → (k : ℕ) (started : Bool) (b : List ℕ) → length b ≤ k
-      → taken F k started b ≡ length b / (F.first + sum ws) * (F.first + sum ws)
+  count_some : (k : ℕ) (started : Bool) (b : List ℕ) → 1 ≤ F.first → F.first + sum ws ≤ length b
+      → AsMany k true (drop (F.first + sum ws) b) → AsMany (suc k) started b
   unfolding sum
-  same_taken = many (adds_bits F)
+  count_some k started b f h ih =
+      let e = readings_some F k started b (F.first ∷ ws) (same_next started b h) in
+      rw (e, length-append, length-numbers, ih, length-drop, div-eq-sub-div (omega arith) h) (omega arith)
+
+  count_same : 1 ≤ F.first → (k : ℕ) (started : Bool) (b : List ℕ) → length b ≤ k → AsMany k started b
+  count_same f zero started b h = count_none zero started b (omega arith)
+  count_same f (suc k) started b h =
+      by_size (dec_le (F.first + sum ws) (length b)) (λ g. count_same f k true (drop (F.first + sum ws) b) (rw length-drop (omega arith)))
+    where
+      by_size : Dec (F.first + sum ws ≤ length b) → (F.first + sum ws ≤ length b → AsMany k true (drop (F.first + sum ws) b)) → AsMany (suc k) started b
+      by_size (yes g) ih = count_some k started b f g (ih g)
+      by_size (no g) ih = count_none (suc k) started b (lt_of_not-le g)
 
 -- ---- vertices
 
@@ -66,27 +54,16 @@ module _ (kind : Kind) (first coord comp n coords : ℕ) (shape : (started : Boo
   pub vertex_more : (started : Bool) (x : ℕ) → (format kind first coord comp n).more started x ≡ some (replicate coords coord ++ replicate n comp)
   vertex_more started x = rw (shape started x, one-mul)
 
-  vertex_sum : sum (replicate coords coord ++ replicate n comp) ≡ coords * coord + n * comp
-  vertex_sum = rw (sum-append (replicate coords coord) (replicate n comp), sum-replicate coords coord, sum-replicate n comp)
-
   -- as many vertices as the bits hold, each with its first number, the coordinates after it and the components
   pub vertex_count : 1 ≤ first → (s : List ℕ)
       → length (raw_reading (format kind first coord comp n) s) ≡ 8 * length s / (first + (coords * coord + n * comp)) * (1 + coords + n)
   unfolding raw_reading
   vertex_count f s =
       let ws : List ℕ = replicate coords coord ++ replicate n comp in
-      let b : length (first ∷ ws) ≡ 1 + coords + n = rw (length-append, length-replicate coords coord, length-replicate n comp) (omega arith) in
+      let a : sum ws ≡ coords * coord + n * comp = rw (sum-append (replicate coords coord) (replicate n comp), sum-replicate coords coord, sum-replicate n comp) in
+      let b : 1 + length ws ≡ 1 + coords + n = rw (length-append, length-replicate coords coord, length-replicate n comp) (omega arith) in
       count_same (format kind first coord comp n) ws vertex_more f (length (stream s)) false (stream s) (omega arith)
-      ∙ rw (length-stream, vertex_sum, b)
-
-  -- the reading ends after the last of them, whatever a flag means
-  pub vertex_end : (meaning : Meaning) → 1 ≤ first → (s : List ℕ) → reading_end (format_by meaning kind first coord comp n) s
-      ≡ 8 * length s / (first + (coords * coord + n * comp)) * (first + (coords * coord + n * comp))
-  unfolding reading_end
-  vertex_end meaning f s =
-      same_taken (format_by meaning kind first coord comp n) (replicate coords coord ++ replicate n comp)
-      (λ started x. vertex_more started (meaning x)) f (length (stream s)) false (stream s) (omega arith)
-      ∙ rw (length-stream, vertex_sum)
+      ∙ rw (length-stream, a, b)
 
 pub type4_count : (flag coord comp n : ℕ) → 1 ≤ flag → (s : List ℕ)
     → length (raw_reading (format Four flag coord comp n) s) ≡ 8 * length s / (flag + (2 * coord + n * comp)) * (3 + n)

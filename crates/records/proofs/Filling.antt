@@ -16,12 +16,12 @@ use Rattle.answers.specs.Limits.{most_bytes}
 use Rattle.bits.specs.Bits.{stream, field_at}
 use Rattle.records.specs.declared.shape.Shape.TheVariants.{Follows, Ends}
 use Rattle.records.specs.declared.shape.Mesh.{Mesh}
-use Rattle.records.specs.Format.{shape_of, next, raw_reading, reading_end}
-use Rattle.records.specs.Inner.Walk.{format_of, Readable, Run, numbers_at, widths_after, record_size, Standing, Vertices, Counted, ReadOut}
+use Rattle.records.specs.Format.{shape_of, next, raw_reading}
+use Rattle.records.specs.Inner.Walk.{format_of, Readable, Run, numbers_at, widths_after, record_size, Standing, Vertices, Counted}
 use Rattle.records.proofs.Finding.{no_first_number, mesh-ends, record_cut, record_stands}
 use Rattle.records.proofs.Shapes.{small}
 use Rattle.records.proofs.Runs.{run_of_one, record_written}
-use Rattle.records.proofs.Walks.{length_record, rest_at, rest_start, rest_none, rest_record, taken_at, taken_start, taken_record, taken-rest}
+use Rattle.records.proofs.Walks.{length_record, rest_at, rest_start, rest_none, rest_record}
 
 pub nothing : (l : List ℕ) → length l ≡ 0 → l ≡ []
 nothing [] e = refl
@@ -35,7 +35,6 @@ pub record Filling (m : Mesh) (s l o : List ℕ) (count p at : ℕ) (started : B
   pub within : at ≤ 8 * length s
   pub same : length o ≡ length l
   pub going : Going (raw_reading (format_of m) s) l o p (rest_at m s started at)
-  pub ends : reading_end (format_of m) s ≡ at + taken_at m s started at
 
 -- the next record: it stands at IsBit at, it is part of the reading, and there is room for it
 pub record Turn (m : Mesh) (s o : List ℕ) (count p at : ℕ) (started : Bool) (coords comps : ℕ) : Type 0 where
@@ -45,15 +44,7 @@ pub record Turn (m : Mesh) (s o : List ℕ) (count p at : ℕ) (started : Bool) 
 
 pub fill_start : {m : Mesh} {s l : List ℕ} {count : ℕ} → Readable m → length s ≤ most_bytes → Counted m s count l → Filling m s l l count 0 0 false
 fill_start {m} {s} {l} r b h =
-    record {
-      readable = r;
-      short = b;
-      counted = h;
-      within = omega arith;
-      same = refl;
-      going = rw (← rest_start) (going_start _ l);
-      ends = taken_start m s;
-    }
+    record { readable = r; short = b; counted = h; within = omega arith; same = refl; going = rw (← rest_start) (going_start _ l) }
 
 module _ {m : Mesh} {s l o : List ℕ} {count p at : ℕ} {started : Bool} (w : Filling m s l o count p at started) where
   left : count ≡ p + length (rest_at m s started at)
@@ -66,14 +57,8 @@ module _ {m : Mesh} {s l o : List ℕ} {count p at : ℕ} {started : Bool} (w : 
         w.going.written.after,
       )
 
-  -- all is written, and the reading ends here
-  pub fill_end : count ≤ p → (at ≡ reading_end (format_of m) s) × ReadOut m s l o
-  fill_end h =
-      let e = nothing (rest_at m s started at) (omega (arith, left)) in
-      let x = going_end (rw e at w.going) in (
-        omega (arith, w.ends, taken-rest s started at w.readable e),
-        record { held = x.held; room = x.room; after = omega arith },
-      )
+  pub fill_end : count ≤ p → Written l o 0 (raw_reading (format_of m) s) p
+  fill_end h = going_end (rw (nothing (rest_at m s started at) (omega (arith, left))) at w.going)
 
   turn : {coords comps : ℕ} → Standing m s started at coords comps (at + record_size m coords comps)
       → Turn m s o count p at started coords comps
@@ -142,7 +127,6 @@ module _ {m : Mesh} {s l o : List ℕ} {count p at : ℕ} {started : Bool} (w : 
           within = st.whole;
           same = n ∙ w.same;
           going = going_step (numbers_at s at (m.first ∷ widths_after m coords comps)) _ (rw (rest_record w.readable st) at w.going) x;
-          ends = w.ends ∙ taken_record w.readable st;
         })
 
     -- of a patch its first number, which ends at after, and then the rest

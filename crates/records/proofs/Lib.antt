@@ -1,7 +1,5 @@
 pub mod Layouts
 pub mod Readings
-pub mod Ends
-pub mod Stops
 pub mod Counts
 pub mod Loop
 pub mod VertexLoop

@@ -1,4 +1,4 @@
--- Two meanings of a record's first number: where they agree on the numbers met, the records are alike and end at one place. Assumes nothing.
+-- Two meanings of a record's first number: where they agree on the numbers met, the records are alike. Assumes nothing.
 use mathlib.Core.Path.{◌≡◌, refl, sym, ap, ap₂, ◌∙◌}
 use mathlib.Core.Bool.{Bool, true, false, ◌&&◌, ◌||◌, cond}
 use mathlib.Core.List.{List, [], ◌∷◌, ◌++◌}
@@ -19,10 +19,9 @@ use Rattle.bits.proofs.Digits.{number_below}
 use Rattle.records.specs.declared.shape.Kind.{Kind}
 use Rattle.records.specs.declared.shape.Kind.TheVariants.{Four, Five, Six, Seven}
 use Rattle.records.specs.declared.shape.Shape.TheVariants.{Follows, Ends}
-use Rattle.records.specs.Format.{sum, numbers, Meaning, Format, points_after, colours_after, shape_of, widths_of, format_by, whole, next, readings, taken}
+use Rattle.records.specs.Format.{sum, numbers, Meaning, Format, points_after, colours_after, shape_of, widths_of, format_by, whole, next, readings}
 use Rattle.records.specs.Flags.{met}
 use Rattle.records.proofs.Readings.{length-numbers, next_some, next_none, next-size, readings_none, readings_some}
-use Rattle.records.proofs.Ends.{taken_none, taken_some}
 
 -- ---- how many numbers follow a record's first number
 
@@ -149,33 +148,6 @@ module _ (kind : Kind) (first coord comp n : ℕ) (flag flag' : Meaning) where
   met_alike (suc k) started b a =
       alike_step k started b b refl (met_here (λ (x : ℕ). flag x ≡ flag' x) F k started b a)
       (λ ws e. (refl, met_alike k true (drop (first + sum ws) b) (met-after (λ (x : ℕ). flag x ≡ flag' x) F k started b (first ∷ ws) a e)))
-
-  -- one record of each, where those after it take as many bits
-  pub taken_step : (k : ℕ) (started : Bool) (b c : List ℕ) → length b ≡ length c
-      → (first ≤ length b → flag (number (take first b)) ≡ flag' (number (take first c)))
-      → ((ws : List ℕ) → next F started b ≡ some (first ∷ ws) → taken F k true (drop (first + sum ws) b) ≡ taken F' k true (drop (first + sum ws) c))
-      → taken F (suc k) started b ≡ taken F' (suc k) started c
-  unfolding sum
-  taken_step k started b c l h go = by_next (next F started b) refl
-    where
-      same : next F started b ≡ next F' started c
-      same = next-same started b c l h
-
-      by_next : (o : Option (List ℕ)) → next F started b ≡ o → taken F (suc k) started b ≡ taken F' (suc k) started c
-      by_next none e = taken_none F (suc k) started b e ∙ sym (taken_none F' (suc k) started c (sym same ∙ e))
-      by_next (some vs) e =
-          let r = next_some F started b vs e in
-          let q : next F started b ≡ some (first ∷ r.0) = e ∙ ap some r.2 in
-          rw (taken_some F k started b (first ∷ r.0) q, taken_some F' k started c (first ∷ r.0) (sym same ∙ q), go r.0 q)
-
-  -- and then both readings end at one place
-  pub met-taken : (k : ℕ) (started : Bool) (b : List ℕ) → All (λ (x : ℕ). flag x ≡ flag' x) (met F k started b)
-      → taken F k started b ≡ taken F' k started b
-  unfolding taken sum
-  met-taken zero started b a = refl
-  met-taken (suc k) started b a =
-      taken_step k started b b refl (met_here (λ (x : ℕ). flag x ≡ flag' x) F k started b a)
-      (λ ws e. met-taken k true (drop (first + sum ws) b) (met-after (λ (x : ℕ). flag x ≡ flag' x) F k started b (first ∷ ws) a e))
 
 -- ---- numbers met
 

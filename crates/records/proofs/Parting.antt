@@ -1,25 +1,21 @@
--- Where the reading by whole flags ends, and that the reading by their two low bits has the same records up to there and ends no sooner. Assumes nothing.
+-- Where the reading by whole flags ends, and that the reading by their two low bits has the same records up to there. Assumes nothing.
 use mathlib.Core.Path.{◌≡◌, refl, sym, ap, ◌∙◌}
-use mathlib.Core.Bool.{Bool, true, false, ◌||◌, or-true, or-false}
+use mathlib.Core.Bool.{Bool, true, false}
 use mathlib.Core.List.{List, [], ◌∷◌, ◌++◌, append_assoc}
 use mathlib.Core.Option.{Option, none, some, none-ne-some}
 use Prim.Native.Nat.{ℕ, zero, suc, ◌+◌, ◌%◌, ◌≤◌, ◌<◌}
 use native.Mathlib.Nat.{mod-eq_of_lt, lt_of_not-le}
 use native.Mathlib.Decide.{dec_le}
 use native.Mathlib.Omega.{arith}
-use borrow.Author.Tests.{lt-ltb, lt-leb, ne_eqb}
-use lib.Dec.{ltb}
-use lib.Seq.{drop-drop}
+use borrow.Author.Tests.{lt-leb, ne_eqb}
 use lib.ListN.{length, take, drop, replicate, length-drop}
 use Rattle.bits.specs.Bits.{bits_of, number, stream}
 use Rattle.records.specs.declared.shape.Kind.{Kind}
 use Rattle.records.specs.declared.shape.Kind.TheVariants.{Four, Five, Six, Seven}
 use Rattle.records.specs.declared.shape.Shape.TheVariants.{Ends}
-use Rattle.records.specs.Format.{sum, numbers, whole_number, two_low_bits, Format, patch_shape, shape_of, widths_of, format_by, whole, next, readings, raw_reading, taken}
+use Rattle.records.specs.Format.{sum, numbers, whole_number, two_low_bits, Format, patch_shape, shape_of, widths_of, format_by, whole, next, readings, raw_reading}
 use Rattle.records.specs.Flags.{Left, left}
-use Rattle.records.proofs.Readings.{length-numbers, next_some, next_fits, next-size, by-records, readings_none, readings_some, readings_enough}
-use Rattle.records.proofs.Ends.{taken_none, taken_some}
-use Rattle.records.proofs.Stops.{taken-ends}
+use Rattle.records.proofs.Readings.{length-numbers, next_some, next_fits, next_none, next-size, readings_none, readings_some, readings_enough}
 use Rattle.records.proofs.Meanings.{Alike, alike_none, alike_more, widths-size, size_by}
 
 -- ---- where a reading ends
@@ -35,24 +31,20 @@ module _ (F : Format) where
   unfolding left
   left_some k started b vs e = rw (e, left)
 
-  -- the bits that are left are those after the records; one came before if these take a IsBit
-  pub left-taken : 1 ≤ F.first → (k : ℕ) (started : Bool) (b : List ℕ)
-      → left F k started b ≡ record { started = started || ltb 0 (taken F k started b); bits = drop (taken F k started b) b }
-  unfolding left taken
-  left-taken f =
-      by-records F (λ (k : ℕ) (started : Bool) (b : List ℕ). left F k started b
-      ≡ record { started = started || ltb 0 (taken F k started b); bits = drop (taken F k started b) b })
-      (λ started b. rw (or-false started))
-      (λ k started b e. rw (left_none (suc k) started b e, taken_none F (suc k) started b e, or-false started))
-      (λ k started b vs e ih.
-      let r = next-size F started b vs e in
-      let t : ℕ = taken F k true (drop (sum vs) b) in
-      rw (left_some k started b vs e, taken_some F k started b vs e, lt-ltb 0 (sum vs + t) (omega arith), or-true started, ← drop-drop t (sum vs) b) ih)
-
   -- no record begins there
   pub left-ends : 1 ≤ F.first → (k : ℕ) (started : Bool) (b : List ℕ) → length b ≤ k
       → next F (left F k started b).started (left F k started b).bits ≡ none
-  left-ends f k started b h = rw (left-taken f k started b) (taken-ends F f k started b h)
+  unfolding left
+  left-ends f zero started b h = next_none F started b (λ ws e. omega arith)
+  left-ends f (suc k) started b h = by_next (next F started b) refl (left-ends f k true)
+    where
+      by_next : (o : Option (List ℕ)) → next F started b ≡ o
+          → ((c : List ℕ) → length c ≤ k → next F (left F k true c).started (left F k true c).bits ≡ none)
+          → next F (left F (suc k) started b).started (left F (suc k) started b).bits ≡ none
+      by_next none e ih = rw (left_none (suc k) started b e) e
+      by_next (some vs) e ih =
+          let r = next-size F started b vs e in
+          rw (left_some k started b vs e) (ih (drop (sum vs) b) (rw length-drop (omega arith)))
 
 -- ---- a flag above 3
 
@@ -134,14 +126,6 @@ module _ (kind : Kind) (first coord comp n : ℕ) where
             append_assoc,
           )
           (ap (λ (l : List ℕ). numbers vs b ++ l) (ih (drop (sum vs) b) (rw length-drop (omega arith)) (rw length-drop (omega arith))))
-
-  -- the reading by whole flags ends no later than the reading by their two low bits
-  pub taken-part : (k : ℕ) (started : Bool) (b : List ℕ) → taken F k started b ≤ taken F' k started b
-  unfolding taken
-  taken-part =
-      by-records F (λ (k : ℕ) (started : Bool) (b : List ℕ). taken F k started b ≤ taken F' k started b) (λ started b. omega arith)
-      (λ k started b e. rw (taken_none F (suc k) started b e) (omega arith))
-      (λ k started b vs e ih. rw (taken_some F k started b vs e, taken_some F' k started b vs (low_next started b vs e)) (omega arith))
 
   -- the records by whole flags mean the same by the two low bits
   pub part_alike : {own : ℕ} → PatchKind kind own → (k : ℕ) (started : Bool) (b : List ℕ)

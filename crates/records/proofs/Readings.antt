@@ -91,18 +91,6 @@ next_none F started b h = go (F.more started (number (take F.first b))) refl
     go none e = refl
     go (some ws) e = rw (lt-leb (F.first + sum ws) (length b) (h ws e))
 
--- where every record is ruled out, there is none
-pub next_none_by : (F : Format) (started : Bool) (b : List ℕ) → ((vs : List ℕ) → next F started b ≡ some vs → ⊥) → next F started b ≡ none
-next_none_by F started b h = go (next F started b) refl
-  where
-    go : (o : Option (List ℕ)) → next F started b ≡ o → o ≡ none
-    go none e = refl
-    go (some vs) e = absurd (h vs e)
-
--- no bits hold no record
-pub next_empty : (F : Format) (started : Bool) (b : List ℕ) → 1 ≤ F.first → length b ≤ 0 → next F started b ≡ none
-next_empty F started b f h = next_none F started b (λ ws e. omega arith)
-
 -- it takes its first number's bits at least
 pub next-size : (F : Format) (started : Bool) (b vs : List ℕ) → next F started b ≡ some vs → (F.first ≤ sum vs) × (sum vs ≤ length b)
 unfolding sum
@@ -117,29 +105,7 @@ next-append F started b t vs e =
     (omega (arith, length-append b t))
     ∙ ap some (sym r.2)
 
--- so a cut after it leaves it
-pub next_before : (F : Format) (started : Bool) (b t vs : List ℕ) → next F started (b ++ t) ≡ some vs → sum vs ≤ length b → next F started b ≡ some vs
-unfolding sum
-next_before F started b t vs e h =
-    let r = next_some F started (b ++ t) vs e in
-    let fits : F.first + sum r.0 ≤ length b = omega (arith, ap sum r.2) in
-    next_fits F started b r.0
-    (ap (λ (l : List ℕ). F.more started (number l)) (sym (take-append-le F.first b t (omega arith))) ∙ r.1) fits
-    ∙ ap some (sym r.2)
-
 -- ---- the records one after the other
-
--- what holds of no records, where none begins, and of one if of those after it, holds of k records at most
-pub by-records : (F : Format) (P : ℕ → Bool → List ℕ → Type 0) → ((started : Bool) (b : List ℕ) → P 0 started b)
-    → ((k : ℕ) (started : Bool) (b : List ℕ) → next F started b ≡ none → P (suc k) started b)
-    → ((k : ℕ) (started : Bool) (b vs : List ℕ) → next F started b ≡ some vs → P k true (drop (sum vs) b) → P (suc k) started b)
-    → (k : ℕ) (started : Bool) (b : List ℕ) → P k started b
-by-records F P zeroth ends goes zero started b = zeroth started b
-by-records F P zeroth ends goes (suc k) started b = by_next (next F started b) refl (by-records F P zeroth ends goes k true)
-  where
-    by_next : (o : Option (List ℕ)) → next F started b ≡ o → ((c : List ℕ) → P k true c) → P (suc k) started b
-    by_next none e ih = ends k started b e
-    by_next (some vs) e ih = goes k started b vs e (ih (drop (sum vs) b))
 
 pub readings_none : (F : Format) (k : ℕ) (started : Bool) (b : List ℕ) → next F started b ≡ none → readings F k started b ≡ []
 unfolding readings
@@ -151,39 +117,36 @@ pub readings_some : (F : Format) (k : ℕ) (started : Bool) (b vs : List ℕ) �
 unfolding readings
 readings_some F k started b vs e = rw (e, readings)
 
--- What goes record by record: z where no record begins; g puts a record in front.
-module _ (F : Format) {A : Type 0} (f : ℕ → Bool → List ℕ → A) (z : A) (g : List ℕ → List ℕ → A → A)
-    (ends : (k : ℕ) (started : Bool) (b : List ℕ) → next F started b ≡ none → f k started b ≡ z)
-    (goes : (k : ℕ) (started : Bool) (b vs : List ℕ) → next F started b ≡ some vs → f (suc k) started b ≡ g vs b (f k true (drop (sum vs) b)))
-    (some_bits : 1 ≤ F.first) where
-  enough_step : (k m : ℕ) (started : Bool) (b : List ℕ) (o : Option (List ℕ)) → next F started b ≡ o → length b ≤ suc k → length b ≤ suc m
-      → ((c : List ℕ) → length c ≤ k → length c ≤ m → f k true c ≡ f m true c) → f (suc k) started b ≡ f (suc m) started b
-  enough_step k m started b none e h l ih = ends (suc k) started b e ∙ sym (ends (suc m) started b e)
-  enough_step k m started b (some vs) e h l ih =
-      let r = next-size F started b vs e in
-      goes k started b vs e
-      ∙ ap (g vs b) (ih (drop (sum vs) b) (rw length-drop (omega arith)) (rw length-drop (omega arith)))
-      ∙ sym (goes m started b vs e)
+-- a record takes a IsBit at least, so any bound that is no less than the number of bits gives the same
+enough_step : (F : Format) (k m : ℕ) (started : Bool) (b : List ℕ) (o : Option (List ℕ)) → next F started b ≡ o → 1 ≤ F.first
+    → length b ≤ suc k → length b ≤ suc m
+    → ((c : List ℕ) → length c ≤ k → length c ≤ m → readings F k true c ≡ readings F m true c)
+    → readings F (suc k) started b ≡ readings F (suc m) started b
+enough_step F k m started b none e f h g ih = readings_none F (suc k) started b e ∙ sym (readings_none F (suc m) started b e)
+enough_step F k m started b (some vs) e f h g ih =
+    let r = next-size F started b vs e in
+    readings_some F k started b vs e
+    ∙ ap (λ (l : List ℕ). numbers vs b ++ l) (ih (drop (sum vs) b) (rw length-drop (omega arith)) (rw length-drop (omega arith)))
+    ∙ sym (readings_some F m started b vs e)
 
-  -- a record takes a IsBit at least, so any bound that is no less than the number of bits gives the same
-  pub enough : (k m : ℕ) (started : Bool) (b : List ℕ) → length b ≤ k → length b ≤ m → f k started b ≡ f m started b
-  enough zero m started b h l = let e = next_empty F started b some_bits h in ends zero started b e ∙ sym (ends m started b e)
-  enough (suc k) zero started b h l = let e = next_empty F started b some_bits l in ends (suc k) started b e ∙ sym (ends zero started b e)
-  enough (suc k) (suc m) started b h l = enough_step k m started b (next F started b) refl h l (enough k m true)
-
-  -- so at such a bound a record is read off, and the bound stays
-  pub enough_on : (k : ℕ) (started : Bool) (b vs : List ℕ) → length b ≤ k → next F started b ≡ some vs → f k started b ≡ g vs b (f k true (drop (sum vs) b))
-  enough_on k started b vs h e = enough k (suc k) started b h (omega arith) ∙ goes k started b vs e
+next_empty : (F : Format) (started : Bool) (b : List ℕ) → 1 ≤ F.first → length b ≤ 0 → next F started b ≡ none
+next_empty F started b f h = next_none F started b (λ ws e. omega arith)
 
 pub readings_enough : (F : Format) (k m : ℕ) (started : Bool) (b : List ℕ) → 1 ≤ F.first → length b ≤ k → length b ≤ m
     → readings F k started b ≡ readings F m started b
-readings_enough F k m started b f =
-    enough F (readings F) [] (λ vs c r. numbers vs c ++ r) (readings_none F) (readings_some F) f k m started b
+readings_enough F zero m started b f h g =
+    let e = next_empty F started b f h in readings_none F zero started b e ∙ sym (readings_none F m started b e)
+readings_enough F (suc k) zero started b f h g =
+    let e = next_empty F started b f g in readings_none F (suc k) started b e ∙ sym (readings_none F zero started b e)
+readings_enough F (suc k) (suc m) started b f h g =
+    enough_step F k m started b (next F started b) refl f h g (λ c. readings_enough F k m true c f)
 
+-- so at such a bound a record is read off, and the bound stays
 pub readings_on : (F : Format) (k : ℕ) (started : Bool) (b vs : List ℕ) → 1 ≤ F.first → length b ≤ k → next F started b ≡ some vs
     → readings F k started b ≡ numbers vs b ++ readings F k true (drop (sum vs) b)
-readings_on F k started b vs f =
-    enough_on F (readings F) [] (λ vs c r. numbers vs c ++ r) (readings_none F) (readings_some F) f k started b vs
+readings_on F k started b vs f h e =
+    let r = next-size F started b vs e in
+    readings_enough F k (suc k) started b f h (omega arith) ∙ readings_some F k started b vs e
 
 -- ---- a cut
 

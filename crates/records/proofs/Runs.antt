@@ -82,7 +82,7 @@ module _ {s : List ℕ} {p : ℕ} {ws : List ℕ} {count : ℕ} {l o : List ℕ}
     width = let a = rw (drop-cons ws k 0 more) at (all_drop Width k ws u.there.widths) in rw e a.0
 
     -- the next number is there
-    pub upto_goes_on : {l : ℕ} → End l ≡ read_at s at w → ⊥
+    pub upto_goes_on : End ≡ read_at s at w → ⊥
     upto_goes_on f =
         omega (
           arith,

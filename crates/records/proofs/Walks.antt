@@ -1,10 +1,9 @@
 -- The records from a place on, and the walk that counts their numbers. Assumes nothing.
 use Prim.Native.Nat.{ℕ, ◌+◌, ◌*◌, ◌≤◌}
-use mathlib.Core.Path.{◌≡◌, refl, sym, ap, ◌∙◌}
+use mathlib.Core.Path.{◌≡◌, refl, ap, ◌∙◌}
 use mathlib.Core.Bool.{Bool, true, false}
 use mathlib.Core.List.{List, [], ◌∷◌, ◌++◌}
 use mathlib.Core.Option.{none}
-use native.Mathlib.Nat.{zero-add}
 use native.Mathlib.Omega.{arith}
 use lib.ListN.{length, drop, length-append, length-drop}
 use lib.Seq.{drop-drop}
@@ -13,10 +12,9 @@ use Rattle.answers.specs.Limits.{most_components}
 use Rattle.records.specs.declared.shape.Kind.{Kind}
 use Rattle.records.specs.declared.shape.Mesh.{Mesh}
 use Rattle.records.specs.Layout.{widths_readable}
-use Rattle.records.specs.Format.{sum, next, readings, raw_reading, taken, reading_end}
+use Rattle.records.specs.Format.{sum, next, readings, raw_reading}
 use Rattle.records.specs.Inner.Walk.{format_of, Readable, numbers_at, widths_after, Standing}
 use Rattle.records.proofs.Readings.{length-numbers, readings_none, readings_on}
-use Rattle.records.proofs.Ends.{taken-nothing, taken_on}
 use Rattle.records.proofs.Layouts.{widths_readable_lem}
 use Rattle.records.proofs.Finding.{sum-after, length-after}
 
@@ -64,30 +62,6 @@ rest_record {m} {s} {started} {p} {coords} {comps} {end} r st =
     let e : p + (m.first + sum (widths_after m coords comps)) ≡ end = omega (arith, st.ends, sum-after m coords comps) in
     readings_on (format_of m) (length (stream s)) started (drop p (stream s)) (m.first ∷ widths_after m coords comps) r.first_some IsFew st.widths
     ∙ rw (drop-drop, e)
-
--- ---- how many bits they take
-
-unfoldable pub taken_at : Mesh → List ℕ → Bool → ℕ → ℕ
-taken_at m s started p = taken (format_of m) (length (stream s)) started (drop p (stream s))
-
-pub taken_start : (m : Mesh) (s : List ℕ) → reading_end (format_of m) s ≡ 0 + taken_at m s false 0
-unfolding taken_at reading_end
-taken_start m s = sym (zero-add _)
-
-pub taken_record : {m : Mesh} {s : List ℕ} {started : Bool} {p coords comps end : ℕ} → Readable m → Standing m s started p coords comps end
-    → p + taken_at m s started p ≡ end + taken_at m s true end
-unfolding taken_at sum
-taken_record {m} {s} {started} {p} {coords} {comps} {end} r st =
-    let IsFew : length (drop p (stream s)) ≤ length (stream s) = rw length-drop (omega arith) in
-    let e : p + (m.first + sum (widths_after m coords comps)) ≡ end = omega (arith, st.ends, sum-after m coords comps) in
-    let on = taken_on (format_of m) (length (stream s)) started (drop p (stream s)) (m.first ∷ widths_after m coords comps) r.first_some IsFew st.widths in
-    omega (arith, e, rw (drop-drop, e) at on)
-
--- none, where no numbers are left
-pub taken-rest : {m : Mesh} (s : List ℕ) (started : Bool) (p : ℕ) → Readable m → rest_at m s started p ≡ [] → taken_at m s started p ≡ 0
-unfolding rest_at taken_at
-taken-rest {m} s started p r e =
-    taken-nothing (format_of m) (length (stream s)) started (drop p (stream s)) r.first_some (rw length-drop (omega arith)) e
 
 -- ---- counting
 

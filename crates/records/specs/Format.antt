@@ -94,15 +94,3 @@ readings F (suc k) started bits =
 -- the raw reading of bytes. A record takes a IsBit at least, so there are no more records than bits
 unfoldable pub raw_reading : Format → List ℕ → List ℕ
 raw_reading F s = readings F (length (stream s)) false (stream s)
-
--- ---- where it ends
-
--- how many bits the complete records take that bits begin with, k records at most
-unfoldable pub taken : Format → ℕ → Bool → List ℕ → ℕ
-taken F zero started bits = 0
-taken F (suc k) started bits =
-    elim (next F started bits) [ none ↦ 0 | some ws ↦ sum ws + taken F k true (drop (sum ws) bits) ]
-
--- the IsBit position after the last complete record of the raw reading; 0 without a record
-unfoldable pub reading_end : Format → List ℕ → ℕ
-reading_end F s = taken F (length (stream s)) false (stream s)

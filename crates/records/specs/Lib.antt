@@ -3,5 +3,4 @@ pub mod Format
 pub mod Raw
 pub mod Loop
 pub mod Flags
-pub mod Ends
 pub mod Inner

@@ -19,7 +19,7 @@ prepend x (cut q) = cut q
 
 unfoldable pub reads : List ℕ → ℕ → List ℕ → Reads
 reads s p [] = ok [] p
-reads s p (w ∷ ws) = elim (read_at s p w) [ End l ↦ cut p | Number x q ↦ prepend x (reads s q.0 ws) ]
+reads s p (w ∷ ws) = elim (read_at s p w) [ End ↦ cut p | Number x q ↦ prepend x (reads s q.0 ws) ]
 
 -- a patch whose reads are all ok is pushed, flag first; else it is not; and the loop goes on either way: again started place
 unfoldable pub pushed : (Bool → ℕ → Option (List ℕ)) → Bool → ℕ → Reads → Option (List ℕ)
@@ -33,7 +33,7 @@ patch_round s again started flag p (some ws) = pushed again started flag (reads 
 
 -- so does the end
 unfoldable pub flagged : Format → List ℕ → (Bool → ℕ → Option (List ℕ)) → Bool → BitRead → Option (List ℕ)
-flagged F s again started (End l) = some []
+flagged F s again started End = some []
 flagged F s again started (Number flag q) = patch_round s again started flag q.0 (F.more started flag)
 
 -- the numbers of the patches that the loop pushes from place p on, where one was pushed before or not; none: it is not over in k rounds

@@ -2,10 +2,10 @@
 use Rattle.std.specs.Prelude.{not, List, ℕ, ltb, length}
 use Rattle.answers.specs.declared.Refusal.TheVariants.{Layout, Components, Length}
 use Rattle.answers.specs.Limits.{most_components, most_bytes}
-use Rattle.answers.specs.Outcome.{Outcome, refuse_if, fitted, ReadOutcome}
+use Rattle.answers.specs.Outcome.{Outcome, refuse_if, fitted}
 use Rattle.records.specs.declared.shape.Kind.{Kind}
 use Rattle.records.specs.Layout.{widths_readable}
-use Rattle.records.specs.Format.{format, raw_reading, reading_end}
+use Rattle.records.specs.Format.{format, raw_reading}
 
 -- LAYOUT, COMPONENTS, LENGTH, ROOM; then the raw reading of the bytes s, and how many numbers it has. Of Type 5, first is coord.
 unfoldable pub raw_read : Kind → ℕ → ℕ → ℕ → ℕ → List ℕ → ℕ → Outcome ℕ
@@ -15,8 +15,3 @@ raw_read kind first coord comp n s room =
     (refuse_if (ltb most_components n) Components
     (refuse_if (ltb most_bytes (length s)) Length
     (fitted (length xs) xs room)))
-
--- and the IsBit position after its last complete record
-abbrev pub read_raw : Kind → ℕ → ℕ → ℕ → ℕ → List ℕ → ℕ → ReadOutcome ℕ
-read_raw kind first coord comp n s room =
-    record { outcome = raw_read kind first coord comp n s room; end = reading_end (format kind first coord comp n) s }

@@ -2,16 +2,16 @@
 ghost use Rattle.std.specs.Prelude.{◌≡◌, ◌∷◌, ◌+◌, ◌*◌, ◌/◌, ◌≤◌, ◌<◌, length, get_or, replicate};
 ghost use Rattle.lists.specs.Writing.{Written};
 ghost use Rattle.answers.specs.Limits.{most_bytes};
-ghost use Rattle.answers.specs.Outcome.{DoneReading};
+ghost use Rattle.answers.specs.Outcome.{Done};
 ghost use Rattle.bits.specs.Reading.{read_at};
 ghost use Rattle.records.specs.declared.shape.Kind.TheVariants as Kind;
-ghost use Rattle.records.specs.Format.{raw_reading, reading_end};
-ghost use Rattle.records.specs.Raw.{read_raw};
-ghost use Rattle.records.specs.Inner.Walk.{format_of, Readable, Run, record_size, numbers_at, widths_after, FoundAt, Vertices, Counted, ReadOut};
+ghost use Rattle.records.specs.Format.{raw_reading};
+ghost use Rattle.records.specs.Raw.{raw_read};
+ghost use Rattle.records.specs.Inner.Walk.{format_of, Readable, Run, record_size, numbers_at, widths_after, FoundAt, Vertices, Counted};
 
 use crate::layout::widths_are_readable;
 use crate::shape::{Kind, Mesh, Shape, shape_of};
-use answers::{Reading, Refusal};
+use answers::{Answer, Refusal};
 use bits::{BitPos, BitRead};
 
 // What stands at a place: a complete record, with so many coordinates and components after its first number; or none, and the reading ends.
@@ -192,11 +192,10 @@ fn write_vertex(
     at
 }
 
-// Writes all vertices, `count` numbers in all; answers the place after the last. So many coordinates follow a vertex's first number.
-fn write_vertices(data: &[u8], mesh: Mesh, coords: usize, count: usize, out: &mut [u32]) -> BitPos
+// Writes all vertices, `count` numbers in all; so many coordinates follow a vertex's first number.
+fn write_vertices(data: &[u8], mesh: Mesh, coords: usize, count: usize, out: &mut [u32]) -> usize
     requires { Readable mesh × (length «data».now ≤ most_bytes) × (Vertices mesh coords) × (Counted mesh «data».now count out.old) }
-    ensures result_value { result.0 ≡ reading_end (format_of mesh) «data».now }
-    ensures read_out { ReadOut mesh «data».now out.old out.new }
+    ensures { Written out.old out.new 0 (raw_reading (format_of mesh) «data».now) result }
 {
     let size = 1 + coords + mesh.n;
     let mut at = BitPos(0);
@@ -205,14 +204,13 @@ fn write_vertices(data: &[u8], mesh: Mesh, coords: usize, count: usize, out: &mu
         at = write_vertex(data, mesh, coords, at, out, p);
         p += size;
     }
-    at
+    p
 }
 
-// Writes all patches, `count` numbers in all; answers the place after the last. A patch's flag, once written, says how many numbers follow.
-fn write_patches(data: &[u8], mesh: Mesh, count: usize, out: &mut [u32]) -> BitPos
+// Writes all patches, `count` numbers in all; a patch's flag, once written, says how many numbers follow.
+fn write_patches(data: &[u8], mesh: Mesh, count: usize, out: &mut [u32]) -> usize
     requires { Readable mesh × (length «data».now ≤ most_bytes) × (Counted mesh «data».now count out.old) }
-    ensures result_value { result.0 ≡ reading_end (format_of mesh) «data».now }
-    ensures read_out { ReadOut mesh «data».now out.old out.new }
+    ensures { Written out.old out.new 0 (raw_reading (format_of mesh) «data».now) result }
 {
     let kind = mesh.kind;
     let mut at = BitPos(0);
@@ -222,22 +220,21 @@ fn write_patches(data: &[u8], mesh: Mesh, count: usize, out: &mut [u32]) -> BitP
         let after = write_run(data, at, mesh.first, 1, out, p);
         let flag = out[p];
         let Shape::Follows { coords, colours } = shape_of(kind, started, flag) else {
-            return at;
+            return p;
         };
         let comps = colours * mesh.n;
         at = write_rest(data, mesh, after, coords, comps, out, p + 1);
         p += 1 + coords + comps;
         started = true;
     }
-    at
+    p
 }
 
-// Writes the whole reading, `count` numbers, to the front of the output; answers the place after the last record. An arm for each type:
-// a walk that is called once would be compiled into its caller, and the numbers that a turn needs would no longer fit the registers.
-fn write_numbers(data: &[u8], mesh: Mesh, count: usize, out: &mut [u32]) -> BitPos
+// Writes the whole reading, `count` numbers, to the front of the output. An arm for each type: a walk that is called once would be
+// compiled into its caller, and the numbers that a turn needs would no longer fit the registers.
+fn write_numbers(data: &[u8], mesh: Mesh, count: usize, out: &mut [u32]) -> usize
     requires { Readable mesh × (length «data».now ≤ most_bytes) × (Counted mesh «data».now count out.old) }
-    ensures result_value { result.0 ≡ reading_end (format_of mesh) «data».now }
-    ensures read_out { ReadOut mesh «data».now out.old out.new }
+    ensures { Written out.old out.new 0 (raw_reading (format_of mesh) «data».now) result }
 {
     let kind = mesh.kind;
     match kind {
@@ -257,17 +254,17 @@ fn raw_read(
     comp: usize,
     n: usize,
     out: &mut [u32],
-) -> Reading
-    ensures { DoneReading (read_raw kind first coord comp n «data».now (length out.old)) out.old result out.new }
+) -> Answer
+    ensures { Done (raw_read kind first coord comp n «data».now (length out.old)) out.old result out.new }
 {
     if !widths_are_readable(first, coord, comp) {
-        return Reading::Refused(Refusal::Layout);
+        return Answer::Refused(Refusal::Layout);
     }
     if n > answers::MOST_COMPONENTS {
-        return Reading::Refused(Refusal::Components);
+        return Answer::Refused(Refusal::Components);
     }
     if data.len() > answers::MOST_BYTES {
-        return Reading::Refused(Refusal::Length);
+        return Answer::Refused(Refusal::Length);
     }
     let mesh = Mesh {
         kind,
@@ -278,10 +275,9 @@ fn raw_read(
     };
     let count = count_numbers(data, mesh);
     if out.len() < count {
-        return Reading::Refused(Refusal::Room(count));
+        return Answer::Refused(Refusal::Room(count));
     }
-    let end = write_numbers(data, mesh, count, out);
-    Reading::Read(count, end)
+    Answer::Wrote(write_numbers(data, mesh, count, out))
 }
 
 // Type 4: each vertex is a flag, x, y and the components.
@@ -292,15 +288,15 @@ pub fn raw_read_type4(
     flag: usize,
     n: usize,
     out: &mut [u32],
-) -> Reading
-    ensures { DoneReading (read_raw Kind.Four flag coord comp n «data».now (length out.old)) out.old result out.new }
+) -> Answer
+    ensures { Done (raw_read Kind.Four flag coord comp n «data».now (length out.old)) out.old result out.new }
 {
     raw_read(data, Kind::Four, flag, coord, comp, n, out)
 }
 
 // Type 5: each vertex is x, y and the components.
-pub fn raw_read_type5(data: &[u8], coord: usize, comp: usize, n: usize, out: &mut [u32]) -> Reading
-    ensures { DoneReading (read_raw Kind.Five coord coord comp n «data».now (length out.old)) out.old result out.new }
+pub fn raw_read_type5(data: &[u8], coord: usize, comp: usize, n: usize, out: &mut [u32]) -> Answer
+    ensures { Done (raw_read Kind.Five coord coord comp n «data».now (length out.old)) out.old result out.new }
 {
     raw_read(data, Kind::Five, coord, coord, comp, n, out)
 }
@@ -313,8 +309,8 @@ pub fn raw_read_type6(
     flag: usize,
     n: usize,
     out: &mut [u32],
-) -> Reading
-    ensures { DoneReading (read_raw Kind.Six flag coord comp n «data».now (length out.old)) out.old result out.new }
+) -> Answer
+    ensures { Done (raw_read Kind.Six flag coord comp n «data».now (length out.old)) out.old result out.new }
 {
     raw_read(data, Kind::Six, flag, coord, comp, n, out)
 }
@@ -327,8 +323,8 @@ pub fn raw_read_type7(
     flag: usize,
     n: usize,
     out: &mut [u32],
-) -> Reading
-    ensures { DoneReading (read_raw Kind.Seven flag coord comp n «data».now (length out.old)) out.old result out.new }
+) -> Answer
+    ensures { Done (raw_read Kind.Seven flag coord comp n «data».now (length out.old)) out.old result out.new }
 {
     raw_read(data, Kind::Seven, flag, coord, comp, n, out)
 }

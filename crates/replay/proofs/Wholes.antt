@@ -13,11 +13,11 @@ leb_iff : (a b : ℕ) → (leb a b ≡ true) ↔ (a ≤ b)
 leb_iff a b = (leb-true a b, le-leb a b)
 
 module _ (s : List ℕ) (at : ℕ) where
-  pub no_header : length s < at + 33 → false ≡ is_whole s at
+  pub no_header : length s < at + 31 → false ≡ is_whole s at
   unfolding is_whole
   no_header h = rw (lt-leb _ _ h)
 
-  module _ (headed : at + 33 ≤ length s) where
+  module _ (headed : at + 31 ≤ length s) where
     pub no_function : is_known (call_at s at).function ≡ false → false ≡ is_whole s at
     unfolding is_whole
     no_function k = rw (le-leb _ _ headed, k)
@@ -39,7 +39,7 @@ module _ (s : List ℕ) (at : ℕ) where
   pub whole_case : is_whole s at ≡ true → CaseThere s at
   unfolding is_whole
   whole_case h =
-      let p = (and-eq-true_iff (leb (at + 33) (length s)) (is_known (call_at s at).function && (leb (input_at s at) 1024 && (leb (room_at s at) 4096 && leb (end_place s at) (length s))))).0 h in
+      let p = (and-eq-true_iff (leb (at + 31) (length s)) (is_known (call_at s at).function && (leb (input_at s at) 1024 && (leb (room_at s at) 4096 && leb (end_place s at) (length s))))).0 h in
       let q = (and-eq-true_iff (is_known (call_at s at).function) (leb (input_at s at) 1024 && (leb (room_at s at) 4096 && leb (end_place s at) (length s)))).0 p.1 in
       let r = simp (and-eq-true_iff, leb_iff) at q.1 in
       record { header = leb-true _ _ p.0; input = r.0; room = r.1.0; end = r.1.1 }
@@ -52,7 +52,7 @@ few_bytes Unknown size = omega arith
 
 -- what a whole case needs has room
 pub record Sizes (s : List ℕ) (at entries second end room : ℕ) : Type 0 where
-  pub entries-end : at + 33 + 8 * entries ≡ second
+  pub entries-end : at + 31 + 8 * entries ≡ second
   pub input_end : second ≤ end
   pub file_end : end ≤ length s
   pub IsFew : end - second ≤ 8192

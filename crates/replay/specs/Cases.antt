@@ -1,7 +1,7 @@
 -- A stored case, by the format at the top of src/main.rt, and what replaying it comes to.
 use Rattle.std.specs.Prelude.{ℕ, ◌+◌, ◌-◌, ◌*◌, ◌/◌, Bool, true, false, cond, ◌&&◌, List, length, take, drop, replicate, ◌==◌, from_bits, nat_le, Float}
 use Rattle.std.specs.Float.{binary64}
-use Rattle.answers.specs.Outcome.{ReadOutcome, tells_end, leaves}
+use Rattle.answers.specs.Outcome.{Outcome, tells, leaves}
 use Rattle.decode.specs.Stored.{big_endian, floats_at}
 use Rattle.replay.specs.declared.calls.Function.{Function}
 use Rattle.replay.specs.declared.calls.Function.TheVariants.{Reader, Builder, Unknown}
@@ -40,9 +40,8 @@ stored_at s at =
     record {
       refused = big_endian s (at + 12) 1;
       count = big_endian s (at + 13) 2;
-      end = big_endian s (at + 15) 2;
-      first = big_endian s (at + 17) 8;
-      second = big_endian s (at + 25) 8;
+      first = big_endian s (at + 15) 8;
+      second = big_endian s (at + 23) 8;
     }
 
 -- how many bytes an input takes
@@ -58,7 +57,7 @@ is_known Unknown = false
 
 -- the indices of the input and of what follows the case
 unfoldable pub input_place : List ℕ → ℕ → ℕ
-input_place s at = at + 33 + 8 * entries_at s at
+input_place s at = at + 31 + 8 * entries_at s at
 
 unfoldable pub end_place : List ℕ → ℕ → ℕ
 end_place s at = input_place s at + bytes_of (call_at s at).function (input_at s at)
@@ -66,7 +65,7 @@ end_place s at = input_place s at + bytes_of (call_at s at).function (input_at s
 -- there is a whole case, of a known function, within the limits
 unfoldable pub is_whole : List ℕ → ℕ → Bool
 is_whole s at =
-    nat_le (at + 33) (length s)
+    nat_le (at + 31) (length s)
     && (is_known (call_at s at).function
     && (nat_le (input_at s at) 1024
     && (nat_le (room_at s at) 4096
@@ -79,22 +78,21 @@ abbrev pub filler : Float
 filler = from_bits binary64 13843220829606772736
 
 -- what is seen of an outcome, where the output held entry
-unfoldable pub seen_of : ReadOutcome Float → List Float → Seen
+unfoldable pub seen_of : Outcome Float → List Float → Seen
 seen_of o entry =
     record {
-      refused = (tells_end o.outcome o.end).refused;
-      count = (tells_end o.outcome o.end).count;
-      end = (tells_end o.outcome o.end).end;
-      first = (digest (leaves o.outcome entry)).first;
-      second = (digest (leaves o.outcome entry)).second;
+      refused = (tells o).refused;
+      count = (tells o).count;
+      first = (digest (leaves o entry)).first;
+      second = (digest (leaves o entry)).second;
     }
 
 -- the outcome of the stored call; its input is given as bytes, which a reader takes, and as numbers, which a builder takes
-unfoldable pub outcome_at : List ℕ → ℕ → ReadOutcome Float
+unfoldable pub outcome_at : List ℕ → ℕ → Outcome Float
 outcome_at s at =
     outcome (call_at s at)
     (take (end_place s at - input_place s at) (drop (input_place s at) s))
-    (floats_at s (at + 33) (entries_at s at))
+    (floats_at s (at + 31) (entries_at s at))
     (floats_at s (input_place s at) ((end_place s at - input_place s at) / 8))
     (room_at s at)
 
@@ -106,9 +104,8 @@ unfoldable pub is_same : Seen → Seen → Bool
 is_same a b =
     (a.refused == b.refused)
     && (a.count == b.count
-    && (a.end == b.end
     && (a.first == b.first
-    && a.second == b.second)))
+    && a.second == b.second))
 
 unfoldable pub replayed : List ℕ → ℕ → Replayed
 replayed s at =

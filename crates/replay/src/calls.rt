@@ -1,10 +1,10 @@
 // The eight ported functions, by the number that a stored file has for each.
 ghost use Rattle.std.specs.Prelude.{◌≡◌, length};
-ghost use Rattle.answers.specs.Outcome.{Done, DoneReading};
-ghost use Rattle.replay.specs.Calls.{function_of, reader_outcome, builder_outcome, outcome};
+ghost use Rattle.answers.specs.Outcome.{Done};
+ghost use Rattle.meshes.specs.Outcomes.{ported_reader};
+ghost use Rattle.replay.specs.Calls.{function_of, builder_outcome, outcome};
 
-use answers::{Answer, Reading, Refusal};
-use bits::BitPos;
+use answers::{Answer, Refusal};
 use records::shape::Kind;
 
 // The binary reader of a mesh type, or the builder from a list.
@@ -42,8 +42,8 @@ pub fn function_of(number: usize) -> Function
     }
 }
 
-fn read(kind: Kind, call: Call, data: &[u8], decode: &[f64], out: &mut [f64]) -> Reading
-    ensures { DoneReading (reader_outcome kind call «data».now decode.now (length out.old)) out.old result out.new }
+fn read(kind: Kind, call: Call, data: &[u8], decode: &[f64], out: &mut [f64]) -> Answer
+    ensures { Done (ported_reader kind «data».now call.coord call.comp call.flag decode.now call.n call.row (length out.old)) out.old result out.new }
 {
     let coord = call.coord;
     let comp = call.comp;
@@ -71,15 +71,14 @@ fn build(kind: Kind, call: Call, values: &[f64], out: &mut [f64]) -> Answer
     }
 }
 
-// Makes the call: a reader takes the bytes and Decode, a builder the list, which has no bits, so 0 is its IsBit position. There is no answer of an
-// unknown function, so it is refused.
-pub fn answer(call: Call, data: &[u8], decode: &[f64], values: &[f64], out: &mut [f64]) -> Reading
-    ensures { DoneReading (outcome call «data».now decode.now values.now (length out.old)) out.old result out.new }
+// Makes the call: a reader takes the bytes and Decode, a builder the list. There is no answer of an unknown function, so it is refused.
+pub fn answer(call: Call, data: &[u8], decode: &[f64], values: &[f64], out: &mut [f64]) -> Answer
+    ensures { Done (outcome call «data».now decode.now values.now (length out.old)) out.old result out.new }
 {
     let function = call.function;
     match function {
         Function::Reader(kind) => read(kind, call, data, decode, out),
-        Function::Builder(kind) => answers::ended(build(kind, call, values, out), BitPos(0)),
-        Function::Unknown => Reading::Refused(Refusal::File),
+        Function::Builder(kind) => build(kind, call, values, out),
+        Function::Unknown => Answer::Refused(Refusal::File),
     }
 }

@@ -11,9 +11,8 @@
 //        10      2  room: how many numbers the lent output has, at most 4,096
 //        12      1  the refusal that is answered, or 0
 //        13      2  the count that is answered
-//        15      2  the IsBit position after the last complete record that a reader answers; 0 for a builder and for a refusal
-//        17     16  the two sums of the lent output after the call, 8 bytes each
-//        33         the Decode entries, 8 bytes each; then the input, a byte each, or 8 bytes for a number of a list
+//        15     16  the two sums of the lent output after the call, 8 bytes each
+//        31         the Decode entries, 8 bytes each; then the input, a byte each, or 8 bytes for a number of a list
 //
 // The whole output is filled with -7.25 before the call. The sums are over all its places, so they also show what must stay as it was.
 // The first is the sum of the numbers' bits, the second the sum of the first as it runs, both modulo 2^64; a NaN counts as the bits 7ff8000000000000.
@@ -58,7 +57,6 @@ fn print_seen(name: &[u8], number: u64, function: u64, seen: Seen) {
     print_number(b", function ", function);
     print_number(b", answers refused ", seen.refused as u64);
     print_number(b", count ", seen.count as u64);
-    print_number(b", end ", seen.end as u64);
     print(b", sums ");
     io::print_hex(STDOUT_FILENO, seen.first, 16);
     print(b" ");

@@ -14,7 +14,6 @@ use decode::stored::{big_endian, read_floats};
 pub struct Seen {
     pub refused: usize,
     pub count: usize,
-    pub end: usize,
     pub first: u64,
     pub second: u64,
 }
@@ -58,7 +57,7 @@ fn is_known(function: Function) -> bool
 }
 
 fn call_at(file: &[u8], at: usize) -> Call
-    requires { at + 33 ≤ length file.now }
+    requires { at + 31 ≤ length file.now }
     ensures { result ≡ call_at file.now at }
 {
     Call {
@@ -72,27 +71,26 @@ fn call_at(file: &[u8], at: usize) -> Call
 }
 
 fn stored_at(file: &[u8], at: usize) -> Seen
-    requires { at + 33 ≤ length file.now }
+    requires { at + 31 ≤ length file.now }
     ensures { result ≡ stored_at file.now at }
 {
     Seen {
         refused: size(file, at + 12, 1),
         count: size(file, at + 13, 2),
-        end: size(file, at + 15, 2),
-        first: size(file, at + 17, 8) as u64,
-        second: size(file, at + 25, 8) as u64,
+        first: size(file, at + 15, 8) as u64,
+        second: size(file, at + 23, 8) as u64,
     }
 }
 
 fn input_place(file: &[u8], at: usize) -> usize
-    requires { at + 33 ≤ length file.now }
-    ensures { (result ≡ input_place file.now at) × (result < at + 2081) }
+    requires { at + 31 ≤ length file.now }
+    ensures { (result ≡ input_place file.now at) × (result < at + 2079) }
 {
-    at + 33 + 8 * size(file, at + 7, 1)
+    at + 31 + 8 * size(file, at + 7, 1)
 }
 
 fn end_place(file: &[u8], at: usize) -> usize
-    requires { at + 33 ≤ length file.now }
+    requires { at + 31 ≤ length file.now }
     ensures { result ≡ end_place file.now at }
 {
     let function = call_at(file, at).function;
@@ -102,10 +100,10 @@ fn end_place(file: &[u8], at: usize) -> usize
 fn is_whole(file: &[u8], at: usize) -> bool
     ensures { result ≡ is_whole file.now at }
 {
-    if file.len() < 33 {
+    if file.len() < 31 {
         return false;
     }
-    if file.len() - 33 < at {
+    if file.len() - 31 < at {
         return false;
     }
     let function = call_at(file, at).function;
@@ -125,12 +123,11 @@ fn is_whole(file: &[u8], at: usize) -> bool
 fn seen_of(call: Call, data: &[u8], decode: &[f64], values: &[f64], out: &mut [f64]) -> Seen
     ensures { result ≡ seen_of (outcome call «data».now decode.now values.now (length out.old)) out.old }
 {
-    let told = answers::tell_reading(calls::answer(call, data, decode, values, out));
+    let told = answers::tell(calls::answer(call, data, decode, values, out));
     let sums = digests::sum_up(out);
     Seen {
         refused: told.refused,
         count: told.count,
-        end: told.end,
         first: sums.first,
         second: sums.second,
     }
@@ -144,7 +141,7 @@ fn seen_at(file: &[u8], at: usize) -> Seen
     let call = call_at(file, at);
     let entries = size(file, at + 7, 1);
     let room = size(file, at + 10, 2);
-    let first = at + 33;
+    let first = at + 31;
     let second = input_place(file, at);
     let end = end_place(file, at);
     let numbers = (end - second) / 8;
@@ -165,8 +162,7 @@ fn seen_at(file: &[u8], at: usize) -> Seen
 fn is_same(a: Seen, b: Seen) -> bool
     ensures { result ≡ is_same a b }
 {
-    a.refused == b.refused
-        && (a.count == b.count && (a.end == b.end && (a.first == b.first && a.second == b.second)))
+    a.refused == b.refused && (a.count == b.count && (a.first == b.first && a.second == b.second))
 }
 
 // Replays the case at an index.

@@ -26,8 +26,8 @@ module _ (s : List ℕ) (p w : ℕ) (h : 1 ≤ w) {r : BitRead} (e : r ≡ read_
   got {v} {q} g = found s p w h v q (sym g ∙ e)
 
   -- a read whose bits exist does not end
-  pub no_end : w ≤ 32 → length s ≤ most_bytes → p + w ≤ 8 * length s → {l : ℕ} → r ≡ End l → ⊥
-  no_end k b m g =
+  pub no_end : w ≤ 32 → length s ≤ most_bytes → p + w ≤ 8 * length s → r ≡ End → ⊥
+  no_end k l m g =
       let z : 8 * length s < p + w = ended s p w h k (omega arith) (sym g ∙ e) in
       omega arith
 

@@ -1,5 +1,5 @@
--- In every function of the archive the room lent decides nothing but ROOM. So `second_call` of answers holds of each, and `second_reading` of the twelve
--- that read bytes: lent what ROOM told, the same call writes all of it. Assumes nothing.
+-- In every function of the archive the room lent decides nothing but ROOM. So `second_call` of answers holds of each: lent what ROOM told, the same call
+-- writes all of it. Assumes nothing.
 use Prim.Native.Nat.{ℕ}
 use mathlib.Core.Path.{refl}
 use mathlib.Core.Bool.{Bool, false, not}

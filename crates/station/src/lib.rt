@@ -1,18 +1,18 @@
 // The library for C and Rust programs: each function tells what the library's own function answers.
 ghost use Rattle.std.specs.Prelude.{[], length};
 ghost use Rattle.std.proofs.Math.Option.{none};
-ghost use Rattle.answers.specs.Outcome.{Tells, TellsReading};
+ghost use Rattle.answers.specs.Outcome.{Tells};
 ghost use Rattle.records.specs.declared.shape.Kind.TheVariants as Kind;
 ghost use Rattle.records.specs.Format.{whole_number, two_low_bits};
-ghost use Rattle.records.specs.Raw.{read_raw};
+ghost use Rattle.records.specs.Raw.{raw_read};
 ghost use Rattle.packing.specs.Writer.{raw_write};
 ghost use Rattle.rules.specs.Triangles.{triangle_before, triangles};
 ghost use Rattle.rules.specs.Ported.{binary_reader, list_builder};
 ghost use Rattle.rules.specs.Patches.{sides, list_sides};
-ghost use Rattle.meshes.specs.Outcomes.{read4, read5, read6, read7, build4, build5, build6, build7};
+ghost use Rattle.meshes.specs.Outcomes.{parse4, parse5, parse6, parse7, build4, build5, build6, build7};
 ghost use Rattle.tensor.specs.Outcomes.{coons_to_tensor_raw, coons_to_tensor};
 
-use answers::{Told, ToldReading};
+use answers::Told;
 
 // Meshes from bytes, as 000 reads them.
 
@@ -25,10 +25,10 @@ pub extern "C" fn mesh_parse_type4(
     decode: &[f64],
     n: usize,
     out: &mut [f64],
-) -> ToldReading
-    ensures { TellsReading (read4 whole_number (binary_reader none 0) «data».now coord comp flag decode.now n (length out.old)) out.old result out.new }
+) -> Told
+    ensures { Tells (parse4 whole_number (binary_reader none 0) «data».now coord comp flag decode.now n (length out.old)) out.old result out.new }
 {
-    answers::tell_reading(triangles::parse_type4_mesh(data, coord, comp, flag, decode, n, out))
+    answers::tell(triangles::parse_type4_mesh(data, coord, comp, flag, decode, n, out))
 }
 
 #[unsafe(no_mangle)]
@@ -40,10 +40,10 @@ pub extern "C" fn mesh_parse_type5(
     n: usize,
     row: usize,
     out: &mut [f64],
-) -> ToldReading
-    ensures { TellsReading (read5 «data».now coord comp decode.now n row (length out.old)) out.old result out.new }
+) -> Told
+    ensures { Tells (parse5 «data».now coord comp decode.now n row (length out.old)) out.old result out.new }
 {
-    answers::tell_reading(triangles::parse_type5_mesh(data, coord, comp, decode, n, row, out))
+    answers::tell(triangles::parse_type5_mesh(data, coord, comp, decode, n, row, out))
 }
 
 #[unsafe(no_mangle)]
@@ -55,10 +55,10 @@ pub extern "C" fn mesh_parse_type6(
     decode: &[f64],
     n: usize,
     out: &mut [f64],
-) -> ToldReading
-    ensures { TellsReading (read6 whole_number sides «data».now coord comp flag decode.now n (length out.old)) out.old result out.new }
+) -> Told
+    ensures { Tells (parse6 whole_number sides «data».now coord comp flag decode.now n (length out.old)) out.old result out.new }
 {
-    answers::tell_reading(patches::parse_type6_patches(data, coord, comp, flag, decode, n, out))
+    answers::tell(patches::parse_type6_patches(data, coord, comp, flag, decode, n, out))
 }
 
 #[unsafe(no_mangle)]
@@ -70,10 +70,10 @@ pub extern "C" fn mesh_parse_type7(
     decode: &[f64],
     n: usize,
     out: &mut [f64],
-) -> ToldReading
-    ensures { TellsReading (read7 whole_number sides «data».now coord comp flag decode.now n (length out.old)) out.old result out.new }
+) -> Told
+    ensures { Tells (parse7 whole_number sides «data».now coord comp flag decode.now n (length out.old)) out.old result out.new }
 {
-    answers::tell_reading(patches::parse_type7_patches(data, coord, comp, flag, decode, n, out))
+    answers::tell(patches::parse_type7_patches(data, coord, comp, flag, decode, n, out))
 }
 
 // Meshes from bytes, as ISO 32000-1 says, but for what docs/DIFFERENCES.md lists.
@@ -87,10 +87,10 @@ pub extern "C" fn mesh_published_type4(
     decode: &[f64],
     n: usize,
     out: &mut [f64],
-) -> ToldReading
-    ensures { TellsReading (read4 two_low_bits (triangles triangle_before) «data».now coord comp flag decode.now n (length out.old)) out.old result out.new }
+) -> Told
+    ensures { Tells (parse4 two_low_bits (triangles triangle_before) «data».now coord comp flag decode.now n (length out.old)) out.old result out.new }
 {
-    answers::tell_reading(triangles::published_type4_mesh(data, coord, comp, flag, decode, n, out))
+    answers::tell(triangles::published_type4_mesh(data, coord, comp, flag, decode, n, out))
 }
 
 #[unsafe(no_mangle)]
@@ -102,10 +102,10 @@ pub extern "C" fn mesh_published_type5(
     n: usize,
     row: usize,
     out: &mut [f64],
-) -> ToldReading
-    ensures { TellsReading (read5 «data».now coord comp decode.now n row (length out.old)) out.old result out.new }
+) -> Told
+    ensures { Tells (parse5 «data».now coord comp decode.now n row (length out.old)) out.old result out.new }
 {
-    answers::tell_reading(triangles::published_type5_mesh(data, coord, comp, decode, n, row, out))
+    answers::tell(triangles::published_type5_mesh(data, coord, comp, decode, n, row, out))
 }
 
 #[unsafe(no_mangle)]
@@ -117,10 +117,10 @@ pub extern "C" fn mesh_published_type6(
     decode: &[f64],
     n: usize,
     out: &mut [f64],
-) -> ToldReading
-    ensures { TellsReading (read6 two_low_bits sides «data».now coord comp flag decode.now n (length out.old)) out.old result out.new }
+) -> Told
+    ensures { Tells (parse6 two_low_bits sides «data».now coord comp flag decode.now n (length out.old)) out.old result out.new }
 {
-    answers::tell_reading(patches::published_type6_patches(data, coord, comp, flag, decode, n, out))
+    answers::tell(patches::published_type6_patches(data, coord, comp, flag, decode, n, out))
 }
 
 #[unsafe(no_mangle)]
@@ -132,10 +132,10 @@ pub extern "C" fn mesh_published_type7(
     decode: &[f64],
     n: usize,
     out: &mut [f64],
-) -> ToldReading
-    ensures { TellsReading (read7 two_low_bits sides «data».now coord comp flag decode.now n (length out.old)) out.old result out.new }
+) -> Told
+    ensures { Tells (parse7 two_low_bits sides «data».now coord comp flag decode.now n (length out.old)) out.old result out.new }
 {
-    answers::tell_reading(patches::published_type7_patches(data, coord, comp, flag, decode, n, out))
+    answers::tell(patches::published_type7_patches(data, coord, comp, flag, decode, n, out))
 }
 
 // Meshes from a list of numbers, as 000 builds them.
@@ -213,10 +213,10 @@ pub extern "C" fn mesh_raw_read_type4(
     flag: usize,
     n: usize,
     out: &mut [u32],
-) -> ToldReading
-    ensures { TellsReading (read_raw Kind.Four flag coord comp n «data».now (length out.old)) out.old result out.new }
+) -> Told
+    ensures { Tells (raw_read Kind.Four flag coord comp n «data».now (length out.old)) out.old result out.new }
 {
-    answers::tell_reading(records::raw::raw_read_type4(data, coord, comp, flag, n, out))
+    answers::tell(records::raw::raw_read_type4(data, coord, comp, flag, n, out))
 }
 
 #[unsafe(no_mangle)]
@@ -226,10 +226,10 @@ pub extern "C" fn mesh_raw_read_type5(
     comp: usize,
     n: usize,
     out: &mut [u32],
-) -> ToldReading
-    ensures { TellsReading (read_raw Kind.Five coord coord comp n «data».now (length out.old)) out.old result out.new }
+) -> Told
+    ensures { Tells (raw_read Kind.Five coord coord comp n «data».now (length out.old)) out.old result out.new }
 {
-    answers::tell_reading(records::raw::raw_read_type5(data, coord, comp, n, out))
+    answers::tell(records::raw::raw_read_type5(data, coord, comp, n, out))
 }
 
 #[unsafe(no_mangle)]
@@ -240,10 +240,10 @@ pub extern "C" fn mesh_raw_read_type6(
     flag: usize,
     n: usize,
     out: &mut [u32],
-) -> ToldReading
-    ensures { TellsReading (read_raw Kind.Six flag coord comp n «data».now (length out.old)) out.old result out.new }
+) -> Told
+    ensures { Tells (raw_read Kind.Six flag coord comp n «data».now (length out.old)) out.old result out.new }
 {
-    answers::tell_reading(records::raw::raw_read_type6(data, coord, comp, flag, n, out))
+    answers::tell(records::raw::raw_read_type6(data, coord, comp, flag, n, out))
 }
 
 #[unsafe(no_mangle)]
@@ -254,10 +254,10 @@ pub extern "C" fn mesh_raw_read_type7(
     flag: usize,
     n: usize,
     out: &mut [u32],
-) -> ToldReading
-    ensures { TellsReading (read_raw Kind.Seven flag coord comp n «data».now (length out.old)) out.old result out.new }
+) -> Told
+    ensures { Tells (raw_read Kind.Seven flag coord comp n «data».now (length out.old)) out.old result out.new }
 {
-    answers::tell_reading(records::raw::raw_read_type7(data, coord, comp, flag, n, out))
+    answers::tell(records::raw::raw_read_type7(data, coord, comp, flag, n, out))
 }
 
 // Bytes from raw numbers.

@@ -12,19 +12,15 @@ use Rattle.lists.specs.Writing.{Written}
 use Rattle.answers.specs.declared.Told.{Told}
 use Rattle.answers.specs.Limits.{most_components, most_bytes, most_numbers}
 use Rattle.answers.specs.declared.Refusal.TheVariants.{Room}
-use Rattle.answers.specs.declared.Answer.{Answer}
 use Rattle.answers.specs.declared.Answer.TheVariants.{Wrote, Refused}
-use Rattle.answers.specs.Outcome.{Outcome, Tells, Done, DoneReading}
-use Rattle.answers.specs.Inner.Ends.{ended_at}
+use Rattle.answers.specs.Outcome.{Outcome, Tells, Done}
 use Rattle.answers.proofs.Outcomes.{no_room_for, all_written}
-use Rattle.answers.proofs.ReadOutcomes.{done_at}
 use Rattle.decode.specs.Decode.{Ranges, ranges}
 use Rattle.records.specs.declared.layout.FlagWidth.TheVariants.{Absent, Bits}
 use Rattle.records.specs.declared.shape.Kind.TheVariants.{Four, Five}
 use Rattle.records.specs.Format.{whole_number}
 use Rattle.records.specs.Layout.{layout_readable}
 use Rattle.records.proofs.Layouts.{layout-widths}
-use Rattle.records.proofs.Counts.{vertex_end}
 use Rattle.colour.specs.Inner.Places.{Numbers, bit_numbers, list_numbers, vertex_at}
 use Rattle.rows.specs.declared.Layout.{Layout}
 use Rattle.rows.specs.Inner.Layouts.{numbers_of, masked, flag_in, range_list, held_ranges, filled_ranges}
@@ -32,7 +28,7 @@ use Rattle.rows.proofs.Held.{held_ranges_lem, filled_alike}
 use Rattle.rules.specs.Triangles.{Tri, triangle_before, triangles, corners}
 use Rattle.rules.specs.Lattice.{lattice}
 use Rattle.rules.specs.Meshes.{Finished, finished, type4_mesh, type5_mesh}
-use Rattle.meshes.specs.Outcomes.{fitted_mesh, Stream, stream_of, raw_of, read4, read5, build4, build5}
+use Rattle.meshes.specs.Outcomes.{fitted_mesh, Stream, raw_of, parse4, parse5, build4, build5}
 use Rattle.meshes.proofs.Endings.{accepted, list_accepted}
 use Rattle.meshes.proofs.Ranges.{type4_alike, type5_alike}
 use Rattle.meshes.proofs.TriangleMeshes.{mesh_of_type4, mesh_of_type5, mesh_of_list4, mesh_of_list5}
@@ -54,10 +50,6 @@ bit_layout flag coord comp n = record { listed = false; flag = flag; coord = coo
 
 abbrev list_layout : ℕ → ℕ → Layout
 list_layout flag n = record { listed = true; flag = flag; coord = 1; comp = 1; n = n }
-
--- they end within the places that hold them
-pub whole-vertices : {v : Vertices} (L : Layout) (mask limit : ℕ) → v ≡ vertices_in L mask limit → v.total * v.size ≤ limit
-whole-vertices L mask limit e = rw e (div-mul-le_self limit (L.flag + (2 * L.coord + L.n * L.comp)))
 
 pub there-bits : (s : List ℕ) (vs : List Float) (coord comp flag mask n : ℕ) → 1 ≤ coord → coord ≤ 32 → 1 ≤ comp → comp ≤ 32 → n ≤ most_components
     → length s ≤ most_bytes → VerticesThere (vertices_in (bit_layout flag coord comp n) mask (8 * length s)) s vs
@@ -122,35 +114,29 @@ module _ (s : List ℕ) (vs : List Float) (coord comp : ℕ) (dec : List Float) 
   alike : (k : ℕ) → k < 2 + n → held k ≡ ranges dec coord comp k
   alike k h = held_ranges_lem dec coord comp k (omega arith)
 
-  pub type4_ended : {entry exit : List Float} (a : Answer) (flag mask : ℕ) → layout_readable coord comp (Bits flag) (length dec) ≡ true
+  pub type4_ended : {entry exit : List Float} {t : Told} (flag mask : ℕ) → layout_readable coord comp (Bits flag) (length dec) ≡ true
       → let v : Vertices = vertices_in (bit_layout flag coord comp n) mask (8 * length s) in
-      Done (fitted_mesh (finished (triangles_in false v s vs) (row_of_vertex v s vs held)) (length entry)) entry a exit
-      → DoneReading (read4 (masked mask) (triangles triangle_before) s coord comp flag dec n (length entry)) entry
-      (ended_at a (record { 0 = v.total * v.size })) exit
+      Tells (fitted_mesh (finished (triangles_in false v s vs) (row_of_vertex v s vs held)) (length entry)) entry t exit
+      → Tells (parse4 (masked mask) (triangles triangle_before) s coord comp flag dec n (length entry)) entry t exit
   unfolding triangles_in flag_of_vertex row_of_vertex numbers_of flag_in
-  type4_ended {entry} a flag mask e d =
-      let m : Stream = stream_of Four (masked mask) coord comp flag dec n in
+  type4_ended {entry} flag mask e d =
+      let m : Stream = record { kind = Four; meaning = masked mask; flag = Bits flag; coord = coord; comp = comp; entries = dec; n = n } in
       let w = layout-widths (Bits flag) coord comp (length dec) e in
-      rw (vertex_end Four flag coord comp n 2 (λ started x. refl) (masked mask) w.of_first.some_bits s)
-      (done_at a (record { 0 = _ })
-      (finishes (accepted m (type4_mesh (triangles triangle_before)) s entry e IsFew short)
+      finishes (accepted m (type4_mesh (triangles triangle_before)) s entry e IsFew short)
       (sym (type4_alike (masked mask) held (ranges dec coord comp) n alike (triangles triangle_before) (raw_of m s))
-      ∙ mesh_of_type4 s held coord comp n (masked mask) flag w.of_first.some_bits triangle_before) d))
+      ∙ mesh_of_type4 s held coord comp n (masked mask) flag w.of_first.some_bits triangle_before) d
 
-  pub type5_ended : {entry exit : List Float} (a : Answer) (mask row : ℕ) → layout_readable coord comp Absent (length dec) ≡ true
+  pub type5_ended : {entry exit : List Float} {t : Told} (mask row : ℕ) → layout_readable coord comp Absent (length dec) ≡ true
       → let v : Vertices = vertices_in (bit_layout 0 coord comp n) mask (8 * length s) in
-      Done (fitted_mesh (finished (lattice v.total row) (row_of_vertex v s vs held)) (length entry)) entry a exit
-      → DoneReading (read5 s coord comp dec n row (length entry)) entry (ended_at a (record { 0 = v.total * v.size })) exit
+      Tells (fitted_mesh (finished (lattice v.total row) (row_of_vertex v s vs held)) (length entry)) entry t exit
+      → Tells (parse5 s coord comp dec n row (length entry)) entry t exit
   unfolding row_of_vertex numbers_of
-  type5_ended {entry} a mask row e d =
-      let m : Stream = stream_of Five whole_number coord comp 0 dec n in
+  type5_ended {entry} mask row e d =
+      let m : Stream = record { kind = Five; meaning = whole_number; flag = Absent; coord = coord; comp = comp; entries = dec; n = n } in
       let w = layout-widths Absent coord comp (length dec) e in
-      let size : coord + (1 * coord + n * comp) ≡ 0 + (2 * coord + n * comp) = omega arith in
-      rw (vertex_end Five coord coord comp n 1 (λ started x. refl) whole_number w.of_coord.some_bits s, size)
-      (done_at a (record { 0 = _ })
-      (finishes (accepted m (type5_mesh row) s entry e IsFew short)
+      finishes (accepted m (type5_mesh row) s entry e IsFew short)
       (sym (type5_alike whole_number held (ranges dec coord comp) n alike row (raw_of m s))
-      ∙ mesh_of_type5 s held coord comp n w.of_coord.some_bits row) d))
+      ∙ mesh_of_type5 s held coord comp n w.of_coord.some_bits row) d
 
 module _ (s : List ℕ) (vs : List Float) (n : ℕ) (R : Ranges) {entry exit : List Float} {t : Told} (IsFew : n ≤ most_components)
     (short : length vs ≤ most_numbers) where

@@ -2,19 +2,18 @@
 // list of numbers, and both readings.
 ghost use Rattle.std.specs.Prelude.{false, [], length};
 ghost use Rattle.std.proofs.Math.Option.{none};
-ghost use Rattle.answers.specs.Outcome.{Done, DoneReading};
+ghost use Rattle.answers.specs.Outcome.{Done};
 ghost use Rattle.records.specs.Format.{whole_number, two_low_bits};
 ghost use Rattle.rows.specs.Inner.Layouts.{masked};
 ghost use Rattle.rules.specs.Triangles.{triangle_before, triangles};
 ghost use Rattle.rules.specs.Ported.{binary_reader, list_builder};
-ghost use Rattle.meshes.specs.Outcomes.{read4, read5, build4, build5};
+ghost use Rattle.meshes.specs.Outcomes.{parse4, parse5, build4, build5};
 ghost use Rattle.triangles.specs.Inner.Vertices.{rule_of};
 
 use crate::free_form::free_form;
 use crate::lattice_form::lattice_form;
 use crate::vertices::vertices_in;
-use answers::{Answer, Reading, Refusal};
-use bits::BitPos;
+use answers::{Answer, Refusal};
 use records::layout::{FlagWidth, mesh_layout_is_readable};
 use rows::Layout;
 
@@ -34,17 +33,17 @@ fn read_type4(
     decode: &[f64],
     n: usize,
     out: &mut [f64],
-) -> Reading
-    ensures { DoneReading (read4 (masked mask) (triangles triangle_before) «data».now coord comp flag decode.now n (length out.old)) out.old result out.new }
+) -> Answer
+    ensures { Done (parse4 (masked mask) (triangles triangle_before) «data».now coord comp flag decode.now n (length out.old)) out.old result out.new }
 {
     if !mesh_layout_is_readable(coord, comp, FlagWidth::Bits(flag), decode.len()) {
-        return Reading::Refused(Refusal::Layout);
+        return Answer::Refused(Refusal::Layout);
     }
     if n > answers::MOST_COMPONENTS {
-        return Reading::Refused(Refusal::Components);
+        return Answer::Refused(Refusal::Components);
     }
     if data.len() > answers::MOST_BYTES {
-        return Reading::Refused(Refusal::Length);
+        return Answer::Refused(Refusal::Length);
     }
     let layout = Layout {
         listed: false,
@@ -54,9 +53,7 @@ fn read_type4(
         n,
     };
     let vertices = vertices_in(layout, mask, 8 * data.len());
-    let end = vertices.total * vertices.size; // dropped vertices too
-    let answer = free_form(data, &decode[0..0], decode, vertices, false, out);
-    answers::ended(answer, BitPos(end))
+    free_form(data, &decode[0..0], decode, vertices, false, out)
 }
 
 fn read_type5(
@@ -67,17 +64,17 @@ fn read_type5(
     n: usize,
     row: usize,
     out: &mut [f64],
-) -> Reading
-    ensures { DoneReading (read5 «data».now coord comp decode.now n row (length out.old)) out.old result out.new }
+) -> Answer
+    ensures { Done (parse5 «data».now coord comp decode.now n row (length out.old)) out.old result out.new }
 {
     if !mesh_layout_is_readable(coord, comp, FlagWidth::Absent, decode.len()) {
-        return Reading::Refused(Refusal::Layout);
+        return Answer::Refused(Refusal::Layout);
     }
     if n > answers::MOST_COMPONENTS {
-        return Reading::Refused(Refusal::Components);
+        return Answer::Refused(Refusal::Components);
     }
     if data.len() > answers::MOST_BYTES {
-        return Reading::Refused(Refusal::Length);
+        return Answer::Refused(Refusal::Length);
     }
     let layout = Layout {
         listed: false,
@@ -87,9 +84,7 @@ fn read_type5(
         n,
     };
     let vertices = vertices_in(layout, rows::WHOLE_NUMBER, 8 * data.len());
-    let end = vertices.total * vertices.size;
-    let answer = lattice_form(data, &decode[0..0], decode, vertices, row, out);
-    answers::ended(answer, BitPos(end))
+    lattice_form(data, &decode[0..0], decode, vertices, row, out)
 }
 
 // The Type 4 reader of 000: a flag is the whole number.
@@ -101,8 +96,8 @@ pub fn parse_type4_mesh(
     decode: &[f64],
     n: usize,
     out: &mut [f64],
-) -> Reading
-    ensures { DoneReading (read4 whole_number (binary_reader none 0) «data».now coord comp flag decode.now n (length out.old)) out.old result out.new }
+) -> Answer
+    ensures { Done (parse4 whole_number (binary_reader none 0) «data».now coord comp flag decode.now n (length out.old)) out.old result out.new }
 {
     read_type4(data, coord, comp, flag, rows::WHOLE_NUMBER, decode, n, out)
 }
@@ -116,8 +111,8 @@ pub fn published_type4_mesh(
     decode: &[f64],
     n: usize,
     out: &mut [f64],
-) -> Reading
-    ensures { DoneReading (read4 two_low_bits (triangles triangle_before) «data».now coord comp flag decode.now n (length out.old)) out.old result out.new }
+) -> Answer
+    ensures { Done (parse4 two_low_bits (triangles triangle_before) «data».now coord comp flag decode.now n (length out.old)) out.old result out.new }
 {
     read_type4(data, coord, comp, flag, rows::TWO_LOW_BITS, decode, n, out)
 }
@@ -131,8 +126,8 @@ pub fn parse_type5_mesh(
     n: usize,
     row: usize,
     out: &mut [f64],
-) -> Reading
-    ensures { DoneReading (read5 «data».now coord comp decode.now n row (length out.old)) out.old result out.new }
+) -> Answer
+    ensures { Done (parse5 «data».now coord comp decode.now n row (length out.old)) out.old result out.new }
 {
     read_type5(data, coord, comp, decode, n, row, out)
 }
@@ -146,8 +141,8 @@ pub fn published_type5_mesh(
     n: usize,
     row: usize,
     out: &mut [f64],
-) -> Reading
-    ensures { DoneReading (read5 «data».now coord comp decode.now n row (length out.old)) out.old result out.new }
+) -> Answer
+    ensures { Done (parse5 «data».now coord comp decode.now n row (length out.old)) out.old result out.new }
 {
     read_type5(data, coord, comp, decode, n, row, out)
 }

@@ -32,7 +32,7 @@ put-listing-requires c κs =
     let c6 = c3.before.before.before in
     let c8 = c6.before.before in
     let a = c8.before.before.before.args in
-    let m = mesh_listable a.kind a.file.now c6.read-mesh.result c6.read-mesh.ensures c3.count.given.1 in
+    let m = mesh_listable a.kind a.file.now c6.read-mesh.ensures c3.count.given.1 in
     rw c8.byte_at.ensures.0 (m.IsFew, m.low, m.there, omega (arith, m.room))
 
 same_length : tie.Need-same-length
@@ -44,7 +44,7 @@ returns c =
     let c5 = c2.before.before.before in
     let c8 = c5.before.before.before in
     let a = c8.before.before.before.before.before.args in
-    rw (← (refused_listing a.kind a.file.now c8.read-mesh.result c8.read-mesh.ensures c5.refusal.given.1)) c2.Put-refused.ensures
+    rw (← (refused_listing a.kind a.file.now c8.read-mesh.ensures c5.refusal.given.1)) c2.Put-refused.ensures
 
 same-length-2 : tie.Need-same-length-2
 same-length-2 c = search rules
@@ -56,7 +56,7 @@ returns-2 c =
     let c9 = c6.before.before.before in
     let c11 = c9.before.before in
     let a = c11.before.before.before.args in
-    rw (← (mesh-listing a.kind a.file.now c9.read-mesh.result c9.read-mesh.ensures c6.count.given.1), ← c11.byte_at.ensures.0) c2.put-listing.ensures
+    rw (← (mesh-listing a.kind a.file.now c9.read-mesh.ensures c6.count.given.1), ← c11.byte_at.ensures.0) c2.put-listing.ensures
 
 pub list-mesh-spec : {M : Type 1} → statement M
 list-mesh-spec =

@@ -1,6 +1,5 @@
 -- `msf::read_kind` meets its contract: a case for each mesh type. Assumes nothing.
 use borrow.Author.Rules.{rules}
-use Rattle.answers.proofs.ReadOutcomes.{done_outcome}
 use Rattle.meshes.specs.Outcomes.{ported_reader}
 use Rattle.msf.proofs.read_kind.Statement.{statement}
 use Rattle.msf.proofs.read_kind.Tie as tie
@@ -36,7 +35,7 @@ returns : tie.Need-returns
 unfolding ported_reader
 returns c =
     let c2 = c.before.before in
-    rw c2.before.before.enum_told.given.1 (done_outcome c2.parse-type4-mesh.result c2.parse-type4-mesh.ensures)
+    rw c2.before.before.enum_told.given.1 c2.parse-type4-mesh.ensures
 
 same-length-2 : tie.Need-same-length-2
 same-length-2 c = search rules
@@ -45,7 +44,7 @@ returns-2 : tie.Need-returns-2
 unfolding ported_reader
 returns-2 c =
     let c2 = c.before.before in
-    rw c2.before.before.enum-told2.given.1 (done_outcome c2.parse-type5-mesh.result c2.parse-type5-mesh.ensures)
+    rw c2.before.before.enum-told2.given.1 c2.parse-type5-mesh.ensures
 
 same-length-3 : tie.Need-same-length-3
 same-length-3 c = search rules
@@ -54,7 +53,7 @@ returns-3 : tie.Need-returns-3
 unfolding ported_reader
 returns-3 c =
     let c2 = c.before.before in
-    rw c2.before.before.enum-told3.given.1 (done_outcome c2.parse-type6-patches.result c2.parse-type6-patches.ensures)
+    rw c2.before.before.enum-told3.given.1 c2.parse-type6-patches.ensures
 
 same-length-4 : tie.Need-same-length-4
 same-length-4 c = search rules
@@ -63,7 +62,7 @@ returns-4 : tie.Need-returns-4
 unfolding ported_reader
 returns-4 c =
     let c2 = c.before.before in
-    rw c2.before.before.enum-told4.given.1 (done_outcome c2.parse-type7-patches.result c2.parse-type7-patches.ensures)
+    rw c2.before.before.enum-told4.given.1 c2.parse-type7-patches.ensures
 
 pub read-kind-spec : {M : Type 1} → statement M
 read-kind-spec =

@@ -40,22 +40,18 @@ patches-requires c κs =
       table_suits a.sides a.form _ c3.own_points.ensures c8.requires,
     )
 
-answer-of-requires : tie.Need-answer-of-requires
-answer-of-requires c κs = search rules
-
 same_length : tie.Need-same-length
 same_length c = search rules
 
 returns-3 : tie.Need-returns-3
 returns-3 c =
-    let c2 = c.before.before.before in
+    let c2 = c.before.before in
     let c6 = c2.before.before.before.before in
     let c7 = c6.before in
     let c8 = c7.before in
     let c11 = c8.before.before.before in
     let a = c11.args in
-    rw c.answer-of.ensures
-    (rw (list_outcome a.sides a.form _ _ _ _ _ _ c6.own_points.ensures c8.if1.false c7.if2.false) at c2.patches.ensures.0)
+    rw (list_outcome a.sides a.form _ _ _ _ _ _ c6.own_points.ensures c8.if1.false c7.if2.false) at c2.patches.ensures
 
 pub build-patches-spec : {M : Type 1} → statement M
 build-patches-spec =
@@ -69,6 +65,5 @@ build-patches-spec =
     part-patches-start
     part-patches-end
     patches-requires
-    answer-of-requires
     same_length
     returns-3)

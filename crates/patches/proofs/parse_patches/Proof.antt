@@ -9,7 +9,7 @@ use Rattle.records.specs.Layout.{layout_readable}
 use Rattle.meshes.proofs.Endings.{unreadable, many_components, too_long}
 use Rattle.patches.specs.declared.sides.Sides.TheVariants.{Border}
 use Rattle.patches.specs.Inner.Forms.{parsed_form}
-use Rattle.patches.proofs.Starting.{bits-there, table_suits, border_fits, bits_done}
+use Rattle.patches.proofs.Starting.{bits-there, table_suits, border_fits, bits-outcome}
 use Rattle.patches.proofs.parse_patches.Statement.{statement}
 use Rattle.patches.proofs.parse_patches.Tie as tie
 
@@ -36,8 +36,8 @@ returns-3 c =
 own-points-requires : tie.Need-own-points-requires
 own-points-requires c κs = search rules
 
-mul-limit : tie.Need-overflow-mul-limit
-mul-limit c = search rules
+mul-t20 : tie.Need-overflow-mul-t20
+mul-t20 c = search rules
 
 sub-patches : tie.Need-overflow-sub-patches
 sub-patches c = search rules
@@ -71,8 +71,8 @@ returns-4 : tie.Need-returns-4
 returns-4 c =
     let called = c.before.before in
     let k = called.before.before.before in
-    bits_done _ _ _ _ _ _ _ _ _ (readable k) k.before.before.if2.false k.before.if3.false (start k).args.form _ k.own_points.ensures
-    called.patches.result called.patches.ensures.0 called.patches.ensures.1
+    rw (bits-outcome _ _ _ _ _ _ _ _ _ (readable k) k.before.before.if2.false k.before.if3.false (start k).args.form _ k.own_points.ensures) at
+    called.patches.ensures
 
 pub parse-patches-spec : {M : Type 1} → statement M
 parse-patches-spec =
@@ -82,8 +82,8 @@ parse-patches-spec =
     returns
     returns-2
     returns-3
-    mul-limit
     own-points-requires
+    mul-t20
     sub-patches
     part-patches-start
     part-patches-end

@@ -4,7 +4,7 @@ use Rattle.records.specs.Format.{whole_number}
 use Rattle.rows.specs.Inner.Layouts.{masked}
 use Rattle.rows.proofs.Masks.{whole-masked}
 use Rattle.rules.specs.Patches.{sides}
-use Rattle.meshes.proofs.FlagReadings.{type6_kept, word_reading}
+use Rattle.meshes.proofs.FlagReadings.{type6_kept, word_outcome}
 use borrow.Author.Rules.{rules}
 use Rattle.patches.specs.Inner.Forms.{parsed_form}
 use Rattle.patches.proofs.parse_type6_patches.Statement.{statement}
@@ -19,7 +19,8 @@ same_length c = search rules
 returns : tie.Need-returns
 unfolding parsed_form
 returns c =
-    word_reading Six _ _ _ _ _ _ (type6_kept sides) (masked 4294967295) whole_number whole-masked _ _ c.before.before.parse-patches.ensures
+    rw (← (word_outcome Six _ _ _ _ _ _ (type6_kept sides) (masked 4294967295) whole_number whole-masked _ _))
+    c.before.before.parse-patches.ensures
 
 pub parse-type6-patches-spec : {M : Type 1} → statement M
 parse-type6-patches-spec = tie.close (tie.spec parse-patches-requires same_length returns)

@@ -2,14 +2,14 @@
 use Rattle.std.specs.Prelude.{ℕ, ◌-◌, ◌≡◌, List, Float}
 use Rattle.std.proofs.Math.Option.{some}
 use Rattle.std.proofs.Math.ListN.{get_elem?}
-use Rattle.answers.specs.Outcome.{Outcome, ReadOutcome}
+use Rattle.answers.specs.Outcome.{Outcome}
 use Rattle.records.specs.declared.layout.FlagWidth.TheVariants.{Bits}
 use Rattle.records.specs.declared.shape.Kind.{Kind}
 use Rattle.records.specs.declared.shape.Kind.TheVariants.{Six, Seven}
 use Rattle.records.specs.Format.{Meaning}
 use Rattle.rules.specs.Patches.{Places, patch, Table, sides, list_sides}
 use Rattle.rules.specs.Meshes.{patch_mesh}
-use Rattle.meshes.specs.Outcomes.{Stream, end_of, parsed, built}
+use Rattle.meshes.specs.Outcomes.{parsed, built}
 use Rattle.patches.specs.declared.Form.{Form}
 use Rattle.patches.specs.declared.Form.TheVariants.{Coons, Tensor}
 use Rattle.patches.specs.declared.sides.Sides.{Sides}
@@ -36,17 +36,10 @@ places_of side = patch side.points side.colours
 abbrev pub TakenSide : Table → ℕ → Side → Type 0
 TakenSide T flag side = get_elem? T (flag - 1) ≡ some (places_of side)
 
-abbrev pub form_stream : Form → Meaning → ℕ → ℕ → ℕ → List Float → ℕ → Stream
-form_stream form meaning coord comp flag entries n =
-    record { kind = type_of_form form; meaning = meaning; flag = Bits flag; coord = coord; comp = comp; entries = entries; n = n }
-
 unfoldable pub parsed_form : Form → Meaning → List ℕ → ℕ → ℕ → ℕ → List Float → ℕ → ℕ → Outcome Float
 parsed_form form meaning s coord comp flag entries n room =
-    parsed (form_stream form meaning coord comp flag entries n) (patch_mesh sides (own_of form)) s room
-
-abbrev pub read_form : Form → Meaning → List ℕ → ℕ → ℕ → ℕ → List Float → ℕ → ℕ → ReadOutcome Float
-read_form form meaning s coord comp flag entries n room =
-    record { outcome = parsed_form form meaning s coord comp flag entries n room; end = end_of (form_stream form meaning coord comp flag entries n) s }
+    parsed (record { kind = type_of_form form; meaning = meaning; flag = Bits flag; coord = coord; comp = comp; entries = entries; n = n })
+    (patch_mesh sides (own_of form)) s room
 
 unfoldable pub built_form : Form → Sides → List Float → ℕ → ℕ → Outcome Float
 built_form form table vs n room = built (patch_mesh (table_of table) (own_of form)) n vs room

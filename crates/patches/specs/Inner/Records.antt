@@ -4,13 +4,10 @@ use Rattle.std.proofs.Math.Option.{Option, none, some}
 use Rattle.std.proofs.Math.ListN.{get_elem?}
 use Rattle.std.specs.Float.{nan}
 use Rattle.lists.specs.Lists.{All, part, flat}
-use Rattle.lists.specs.Writing.{Written}
-use Rattle.answers.specs.declared.Reading.{Reading}
-use Rattle.answers.specs.declared.Reading.TheVariants.{Read, Refused}
 use Rattle.answers.specs.Limits.{most_components, most_bytes}
 use Rattle.decode.specs.Decode.{Ranges}
 use Rattle.colour.specs.Inner.Places.{points_at, colours_at}
-use Rattle.records.specs.Format.{Meaning, Format, points_after, colours_after, patch_shape, widths_of, raw_reading, reading_end}
+use Rattle.records.specs.Format.{Meaning, Format, points_after, colours_after, patch_shape, widths_of, raw_reading}
 use Rattle.rows.specs.Inner.Layouts.{numbers_of, masked, flag_in}
 use Rattle.rules.specs.Patches.{Places, Table}
 use Rattle.rules.specs.Inner.Sides.{Fits}
@@ -103,28 +100,10 @@ row_at T m s vs R o start f p =
 
 -- ---- the mesh
 
--- how its records stand in bits
-abbrev pub bit_format : Records → Format
-bit_format m =
-    let L = m.layout in
-    let flag : Meaning = masked m.mask in
-    record { first = L.flag; more = λ started x. widths_of L.coord L.comp L.n (patch_shape m.own started (flag x)) }
-
 -- what the whole mesh comes to
 unfoldable pub finished_of : Table → Records → List ℕ → List Float → Ranges → Finished Float
 finished_of T m s vs R =
     let L = m.layout in
-    cond L.listed (patch_mesh T m.own as_listed L.n vs) (patch_mesh T m.own (by_decode (masked m.mask) R) L.n (raw_reading (bit_format m) s))
-
--- these numbers are written to the front of the output
-abbrev pub WrittenAll : List Float → List Float → List Float → Type 0
-WrittenAll entry exit xs = Written entry exit 0 xs (length xs)
-
--- in bits, the place is the position after the last complete record
-pub record EndsAt (m : Records) (s : List ℕ) (place : ℕ) : Type 0 where
-  pub in_bits : m.layout.listed ≡ false → place ≡ reading_end (bit_format m) s
-
--- that of a reading which isn't refused
-abbrev pub EndOf : Records → List ℕ → Reading → Type 0
-EndOf m s (Read count end) = EndsAt m s end.0
-EndOf m s (Refused r) = Unit {0}
+    let flag : Meaning = masked m.mask in
+    let F : Format = record { first = L.flag; more = λ started x. widths_of L.coord L.comp L.n (patch_shape m.own started (flag x)) } in
+    cond L.listed (patch_mesh T m.own as_listed L.n vs) (patch_mesh T m.own (by_decode flag R) L.n (raw_reading F s))

@@ -1,7 +1,6 @@
 -- What the raw readers' inner functions promise one another. Its first part serves the raw writers too.
 use Rattle.std.specs.Prelude.{◌≡◌, Bool, List, ◌∷◌, ◌++◌, ℕ, ◌+◌, ◌*◌, ◌≤◌, length, drop, replicate}
 use Rattle.std.proofs.Math.Option.{none, some}
-use Rattle.lists.specs.Writing.{Written}
 use Rattle.answers.specs.Limits.{most_components, most_bytes}
 use Rattle.bits.specs.Bits.{stream}
 use Rattle.records.specs.declared.shape.Mesh.{Mesh}
@@ -67,7 +66,3 @@ pub record Vertices (m : Mesh) (coords : ℕ) : Type 0 where
 pub record Counted (m : Mesh) (s : List ℕ) (count : ℕ) (out : List ℕ) : Type 0 where
   pub is : count ≡ length (raw_reading (format_of m) s)
   pub room : count ≤ length out
-
--- the whole reading stands at the front of the output
-abbrev pub ReadOut : Mesh → List ℕ → List ℕ → List ℕ → Type 0
-ReadOut m s entry exit = Written entry exit 0 (raw_reading (format_of m) s) (length (raw_reading (format_of m) s))

@@ -6,7 +6,7 @@ use Rattle.replay.specs.Cases.{input_at, room_at, end_place}
 
 -- a whole case within the limits stands at an index
 pub record CaseThere (s : List ℕ) (at : ℕ) : Type 0 where
-  pub header : at + 33 ≤ length s
+  pub header : at + 31 ≤ length s
   pub input : input_at s at ≤ 1024
   pub room : room_at s at ≤ 4096
   pub end : end_place s at ≤ length s

@@ -29,7 +29,7 @@ flag_in L mask s vs = cond L.listed (λ (p : ℕ). flag_of (get_or vs p nan)) (�
 
 abbrev pub number_read : BitRead → ℕ
 number_read (Number x q) = x
-number_read (End left) = 0
+number_read End = 0
 
 -- the flag at any place as a whole number; 0 where there is none
 unfoldable pub flag_at : Layout → List ℕ → List Float → ℕ → ℕ

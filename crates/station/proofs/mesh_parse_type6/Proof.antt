@@ -1,20 +1,20 @@
 -- `station::mesh_parse_type6` meets its contract: it tells what `parse_type6_patches` answers. Assumes nothing.
 use borrow.Author.Rules.{rules}
-use Rattle.answers.proofs.ReadOutcomes.{tells-same-reading}
+use Rattle.answers.proofs.Outcomes.{tells-same}
 use Rattle.station.proofs.mesh_parse_type6.Statement.{statement}
 use Rattle.station.proofs.mesh_parse_type6.Tie as tie
 
 parse-type6-patches-requires : tie.Need-parse-type6-patches-requires
 parse-type6-patches-requires c κs = search rules
 
-tell-reading-requires : tie.Need-tell-reading-requires
-tell-reading-requires c κs = search rules
+tell-requires : tie.Need-tell-requires
+tell-requires c κs = search rules
 
 same_length : tie.Need-same-length
 same_length c = search rules
 
 returns : tie.Need-returns
-returns c = tells-same-reading c.tell-reading.ensures c.before.before.before.parse-type6-patches.ensures
+returns c = tells-same c.tell.ensures c.before.before.before.parse-type6-patches.ensures
 
 pub mesh-parse-type6-spec : {M : Type 1} → statement M
-mesh-parse-type6-spec = tie.close (tie.spec parse-type6-patches-requires tell-reading-requires same_length returns)
+mesh-parse-type6-spec = tie.close (tie.spec parse-type6-patches-requires tell-requires same_length returns)

@@ -1,20 +1,20 @@
 -- `station::mesh_published_type7` meets its contract: it tells what `published_type7_patches` answers. Assumes nothing.
 use borrow.Author.Rules.{rules}
-use Rattle.answers.proofs.ReadOutcomes.{tells-same-reading}
+use Rattle.answers.proofs.Outcomes.{tells-same}
 use Rattle.station.proofs.mesh_published_type7.Statement.{statement}
 use Rattle.station.proofs.mesh_published_type7.Tie as tie
 
 published-type7-patches-requires : tie.Need-published-type7-patches-requires
 published-type7-patches-requires c κs = search rules
 
-tell-reading-requires : tie.Need-tell-reading-requires
-tell-reading-requires c κs = search rules
+tell-requires : tie.Need-tell-requires
+tell-requires c κs = search rules
 
 same_length : tie.Need-same-length
 same_length c = search rules
 
 returns : tie.Need-returns
-returns c = tells-same-reading c.tell-reading.ensures c.before.before.before.published-type7-patches.ensures
+returns c = tells-same c.tell.ensures c.before.before.before.published-type7-patches.ensures
 
 pub mesh-published-type7-spec : {M : Type 1} → statement M
-mesh-published-type7-spec = tie.close (tie.spec published-type7-patches-requires tell-reading-requires same_length returns)
+mesh-published-type7-spec = tie.close (tie.spec published-type7-patches-requires tell-requires same_length returns)

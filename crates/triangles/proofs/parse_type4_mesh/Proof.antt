@@ -4,7 +4,7 @@ use Rattle.rules.specs.Triangles.{triangle_before}
 use Rattle.records.specs.Format.{whole_number}
 use Rattle.rows.specs.Inner.Layouts.{masked}
 use Rattle.rows.proofs.Masks.{whole-masked}
-use Rattle.meshes.proofs.FlagReadings.{type4_kept, word_reading}
+use Rattle.meshes.proofs.FlagReadings.{type4_kept, word_outcome}
 use Rattle.meshes.proofs.TriangleReadings.{type4_ported}
 use Rattle.records.specs.declared.shape.Kind.TheVariants.{Four}
 use borrow.Author.Rules.{rules}
@@ -19,8 +19,8 @@ same_length c = search rules
 
 returns : tie.Need-returns
 returns c =
-    rw type4_ported
-    (word_reading Four _ _ _ _ _ _ (type4_kept triangle_before) (masked 4294967295) whole_number whole-masked _ _ c.before.before.read-type4.ensures)
+    rw (type4_ported, ← (word_outcome Four _ _ _ _ _ _ (type4_kept triangle_before) (masked 4294967295) whole_number whole-masked _ _))
+    c.before.before.read-type4.ensures
 
 pub parse-type4-mesh-spec : {M : Type 1} → statement M
 parse-type4-mesh-spec = tie.close (tie.spec read-type4-requires same_length returns)

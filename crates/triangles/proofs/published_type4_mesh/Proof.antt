@@ -4,7 +4,7 @@ use Rattle.records.specs.Format.{two_low_bits}
 use Rattle.rows.specs.Inner.Layouts.{masked}
 use Rattle.rows.proofs.Masks.{low_masked}
 use Rattle.rules.specs.Triangles.{triangle_before}
-use Rattle.meshes.proofs.FlagReadings.{type4_kept, word_reading}
+use Rattle.meshes.proofs.FlagReadings.{type4_kept, word_outcome}
 use borrow.Author.Rules.{rules}
 use Rattle.triangles.proofs.published_type4_mesh.Statement.{statement}
 use Rattle.triangles.proofs.published_type4_mesh.Tie as tie
@@ -17,7 +17,8 @@ same_length c = search rules
 
 returns : tie.Need-returns
 returns c =
-    word_reading Four _ _ _ _ _ _ (type4_kept triangle_before) (masked 3) two_low_bits (λ x l. low_masked x) _ _ c.before.before.read-type4.ensures
+    rw (← (word_outcome Four _ _ _ _ _ _ (type4_kept triangle_before) (masked 3) two_low_bits (λ x l. low_masked x) _ _))
+    c.before.before.read-type4.ensures
 
 pub published-type4-mesh-spec : {M : Type 1} → statement M
 published-type4-mesh-spec = tie.close (tie.spec read-type4-requires same_length returns)

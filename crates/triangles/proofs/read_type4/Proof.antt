@@ -1,14 +1,10 @@
 -- `triangles::read_type4` meets its contract: each refusal in its order, then the core over the bits, whose rows are those of Decode. Assumes nothing.
-use mathlib.Core.Path.{◌≡◌, sym, ◌∙◌}
-use mathlib.Core.Bool.{true}
-use native.Mathlib.Omega.{arith}
-use lib.ListN.{length}
+use mathlib.Core.Path.{sym, ◌∙◌}
 use borrow.Author.Tests.{not-true, not-false}
 use Rattle.records.specs.declared.layout.FlagWidth.TheVariants.{Bits}
-use Rattle.records.specs.Layout.{layout_readable}
 use Rattle.records.proofs.Layouts.{layout-widths}
 use Rattle.meshes.proofs.Endings.{unreadable, many_components, too_long}
-use Rattle.triangles.proofs.Ends.{true_false, whole-vertices, there-bits, type4_ended}
+use Rattle.triangles.proofs.Ends.{true_false, there-bits, type4_ended}
 use borrow.Author.Rules.{rules}
 use Rattle.triangles.proofs.read_type4.Statement.{statement}
 use Rattle.triangles.proofs.read_type4.Tie as tie
@@ -33,19 +29,6 @@ vertices-in-requires c κs = let s = c.before.before.before.before.before.before
     let w = layout-widths (Bits s.args.flag) s.args.coord s.args.comp _ (sym c.before.before.before.mesh-layout-is-readable.ensures ∙ not-false _ c.before.before.if1.false) in
     (w.of_coord.some_bits, w.of_coord.few_bits, w.of_comp.few_bits, w.of_first.few_bits, c.before.if2.false)
 
--- past the refusals, with the vertices counted
-module _ (k : tie.After-vertices-in) where
-  abbrev start : tie.Start
-  start = k.before.before.before.before.before.before.before.before
-
-  readable : layout_readable start.args.coord start.args.comp (Bits start.args.flag) (length start.args.decode.now) ≡ true
-  readable = sym k.before.before.before.before.mesh-layout-is-readable.ensures ∙ not-false _ k.before.before.before.if1.left
-
-mul-end : tie.Need-overflow-mul-end
-mul-end c =
-    let k = c.before in
-    omega (arith, whole-vertices _ _ _ k.vertices-in.ensures, k.before.if3.false)
-
 sub-free-form : tie.Need-overflow-sub-free-form
 sub-free-form c = search rules
 
@@ -56,27 +39,19 @@ part-free-form-end : tie.Need-slice-bounds-free-form-end
 part-free-form-end c = search rules
 
 free-form-requires : tie.Need-free-form-requires
-free-form-requires c κs =
-    let k = c.before.before.before in
-    let w = layout-widths (Bits (start k).args.flag) (start k).args.coord (start k).args.comp _ (readable k) in
-    let e = k.vertices-in.ensures in
-    let h = there-bits _ _ (start k).args.coord (start k).args.comp (start k).args.flag (start k).args.mask (start k).args.n w.of_coord.some_bits w.of_coord.few_bits w.of_comp.some_bits w.of_comp.few_bits k.before.before.if2.false k.before.if3.false in
+free-form-requires c κs = let s = c.before.before.before.before.before.before.before.before.before.before in
+    let w = layout-widths (Bits s.args.flag) s.args.coord s.args.comp _ (sym c.before.before.before.before.before.before.mesh-layout-is-readable.ensures ∙ not-false _ c.before.before.before.before.before.if1.false) in
+    let e = c.before.before.vertices-in.ensures in
+    let h = there-bits _ _ s.args.coord s.args.comp s.args.flag s.args.mask s.args.n w.of_coord.some_bits w.of_coord.few_bits w.of_comp.some_bits w.of_comp.few_bits c.before.before.before.before.if2.false c.before.before.before.if3.false in
     (rw e h, rw e (record { some_bits = w.of_first.some_bits; few_bits = w.of_first.few_bits; listed_whole = λ t. true_false t }))
-
-ended-requires : tie.Need-ended-requires
-ended-requires c κs = search rules
 
 same_length : tie.Need-same-length
 same_length c = search rules
 
 returns-4 : tie.Need-returns-4
-returns-4 c =
-    let called = c.before.before.before in
-    let k = called.before.before.before.before in
-    let e = k.vertices-in.ensures in
-    rw (c.ended.ensures, e)
-    (type4_ended _ _ (start k).args.coord (start k).args.comp _ (start k).args.n k.before.before.if2.false k.before.if3.false called.free_form_lem.result (start k).args.flag (start k).args.mask (readable k)
-    (rw e at called.free_form_lem.ensures))
+returns-4 c = let s = c.before.before.before.before.before.before.before.before.before.before.before.before.before in
+    let e = c.before.before.before.before.before.vertices-in.ensures in
+    type4_ended _ _ s.args.coord s.args.comp _ s.args.n c.before.before.before.before.before.before.before.if2.false c.before.before.before.before.before.before.if3.false s.args.flag s.args.mask (sym c.before.before.before.before.before.before.before.before.before.mesh-layout-is-readable.ensures ∙ not-false _ c.before.before.before.before.before.before.before.before.if1.false) (rw e at c.before.before.free_form_lem.ensures)
 
 pub read-type4-spec : {M : Type 1} → statement M
 read-type4-spec =
@@ -88,11 +63,9 @@ read-type4-spec =
     returns-3
     mul-vertices-in
     vertices-in-requires
-    mul-end
     sub-free-form
     part-free-form-start
     part-free-form-end
     free-form-requires
-    ended-requires
     same_length
     returns-4)

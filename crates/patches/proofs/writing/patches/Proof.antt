@@ -41,10 +41,8 @@ returns : tie.Need-returns
 returns c =
     let k = c.before.before.before in
     let start = k.before.before.before.before.before.before in
-    let a = start.args in (
-      no_room_for_patches start.requires.1 start.requires.0 (λ R. k.count-patches.ensures.1 (table_of a.sides) R start.requires.1) a.decode.now a.out.now c.if1.true,
-      tt,
-    )
+    let a = start.args in
+    no_room_for_patches start.requires.1 start.requires.0 (λ R. k.count-patches.ensures.1 (table_of a.sides) R start.requires.1) a.decode.now a.out.now c.if1.true
 
 fill-ranges-requires : tie.Need-fill-ranges-requires
 fill-ranges-requires c κs = search rules
@@ -67,11 +65,9 @@ returns-2 c =
     let filled = c.before.before.before.before.before in
     let k = filled.before.before.before.before.before in
     let start = k.before.before.before.before.before.before in
-    let a = start.args in (
-      patches_written start.requires.1 start.requires.0 (λ R. k.count-patches.ensures.1 (table_of a.sides) R start.requires.1) a.decode.now a.out.now _ _
-          filled.fill-ranges.ensures c.before.before.write-patches.ensures.1,
-      c.before.before.write-patches.ensures.0,
-    )
+    let a = start.args in
+    patches_written start.requires.1 start.requires.0 (λ R. k.count-patches.ensures.1 (table_of a.sides) R start.requires.1) a.decode.now a.out.now _ _
+    filled.fill-ranges.ensures c.before.before.write-patches.ensures
 
 pub patches-spec : {M : Type 1} → statement M
 patches-spec =

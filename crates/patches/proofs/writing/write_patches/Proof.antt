@@ -1,5 +1,4 @@
--- `write_patches` meets its contract. The invariant: the last patch stands right before, the mesh is what was written and what comes from here on, and the
--- bits end where that ends.
+-- `write_patches` meets its contract. The invariant: the last patch stands right before, and the mesh is what was written and what comes from here on.
 -- The measure is what is left of the places. Assumes nothing.
 use Prim.Native.Nat.{◌-◌, ◌≤◌}
 use mathlib.Core.Path.{sym, ◌∙◌}
@@ -8,7 +7,6 @@ use borrow.Author.Rules.{rules}
 use Rattle.rows.specs.Inner.Layouts.{held_ranges}
 use Rattle.patches.specs.Inner.Forms.{table_of}
 use Rattle.patches.proofs.Walk.{Walk, walk_start, walk_flag, walk_joined, walk_room, walk_step, walk_end}
-use Rattle.patches.proofs.Positions.{EndsFrom, ends_start, ends-step, ends_here}
 use Rattle.patches.proofs.Found.{record_moves, found-whole}
 use Rattle.patches.proofs.writing.write_patches.Statement.{statement}
 use Rattle.patches.proofs.writing.write_patches.Tie as tie
@@ -16,7 +14,6 @@ use Rattle.patches.proofs.writing.write_patches.Tie as tie
 abbrev invariant-loop : tie.invariant-loop
 invariant-loop «data» values records ranges sides out₀ at₀ place₀ most₀ out at place most =
     (place.0 ≤ records.limit) × Walk (table_of sides) records «data» values (held_ranges ranges) out₀ out at place.0 most
-    × EndsFrom records «data» place.0 most
 
 abbrev decreases-loop : tie.decreases-loop
 decreases-loop «data» values records ranges sides out₀ at₀ place₀ most₀ out at place most = records.limit - place.0
@@ -24,7 +21,7 @@ decreases-loop «data» values records ranges sides out₀ at₀ place₀ most�
 loop-holds : tie.Need-loop-init invariant-loop decreases-loop
 loop-holds c =
     let h = c.before.before.before.requires in
-    (omega arith, walk_start h.1 _ h.0 h.2, ends_start _ _)
+    (omega arith, walk_start h.1 _ h.0 h.2)
 
 find-record-requires : tie.Need-find-record-requires invariant-loop decreases-loop
 find-record-requires c κs =
@@ -48,7 +45,7 @@ returns c =
     let e = sym c.enum_told.given.1 ∙ c2.find-record.ensures in
     let i = c3.loop.invariant in
     let h = c7.requires in
-    (ends_here h.0 i.2 i.0 e, walk_end h.1 _ i.1 i.0 e)
+    walk_end h.1 _ i.1 i.0 e
 
 write-patch-requires : tie.Need-write-patch-requires invariant-loop decreases-loop
 write-patch-requires c κs =
@@ -103,7 +100,7 @@ loop-again c =
     let r = held_ranges a.ranges.now in
     let v = found-whole _ _ _ _ _ g.0.0 g.0.1.0 e in
     let k = record_moves a.records g.0.0 in
-    (v.within, walk_step h.1 r i.1 g.0.0 g.0.1.0 e c2.write-patch.ensures, ends-step h.0 i.2 g.0.0 g.0.1.0 e)
+    (v.within, walk_step h.1 r i.1 g.0.0 g.0.1.0 e c2.write-patch.ensures)
 
 pub write-patches-spec : {M : Type 1} → statement M
 write-patches-spec =

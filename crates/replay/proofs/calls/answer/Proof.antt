@@ -1,8 +1,7 @@
 -- `replay::calls::answer` meets its contract: a reader reads, a builder builds, and none refuses. Assumes nothing.
-use Rattle.answers.specs.declared.Refusal.TheVariants.{File}
 use Rattle.answers.proofs.Outcomes.{was_refused}
-use Rattle.answers.proofs.ReadOutcomes.{refused_at}
-use Rattle.replay.proofs.Numbered.{done_call, done_builder}
+use Rattle.replay.specs.Calls.{outcome}
+use Rattle.replay.proofs.Numbered.{done_reader, done_builder}
 use Rattle.std.proofs.Common.{rules}
 use Rattle.replay.proofs.calls.answer.Statement.{statement}
 use Rattle.replay.proofs.calls.answer.Tie as tie
@@ -19,9 +18,6 @@ enum-known-function-2 c = search rules
 build-requires : tie.Need-build-requires
 build-requires c κs = search rules
 
-ended-requires : tie.Need-ended-requires
-ended-requires c κs = search rules
-
 enum_told : tie.Need-enum-told
 enum_told c = search rules
 
@@ -29,18 +25,17 @@ same_length : tie.Need-same-length
 same_length c = search rules
 
 returns : tie.Need-returns
-returns c = done_call _ _ _ _ _ c.before.before.before.before.before.function.given.1 c.before.before.read.ensures
+returns c = done_reader _ _ _ _ _ c.before.before.before.before.before.function.given.1 c.before.before.read.ensures
 
 same-length-2 : tie.Need-same-length-2
 same-length-2 c = search rules
 
 returns-2 : tie.Need-returns-2
-returns-2 c =
-    let b = c.before.before.before in
-    rw c.ended.ensures (done_builder _ _ _ _ _ b.build.result b.before.before.before.function2.given.1 b.build.ensures)
+returns-2 c = done_builder _ _ _ _ _ c.before.before.before.before.before.function2.given.1 c.before.before.build.ensures
 
 returns-3 : tie.Need-returns-3
-returns-3 c = done_call _ _ _ _ _ c.enum_told.given.1 (refused_at File 0 was_refused)
+unfolding outcome
+returns-3 c = rw c.enum_told.given.1 was_refused
 
 pub answer-spec : {M : Type 1} → statement M
 answer-spec =
@@ -50,7 +45,6 @@ answer-spec =
     read-requires
     enum-known-function-2
     build-requires
-    ended-requires
     enum_told
     same_length
     returns

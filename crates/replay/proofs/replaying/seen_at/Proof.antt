@@ -127,7 +127,7 @@ returns c =
     ∙ seen_same (take (r.size2.result - 0) (replicate 4096 filler)) (room_at s at)
     n.before.call_at.ensures
     (rw (e.end-place.ensures, i.input-place.ensures.0))
-    (part_written (floats_there s (at + 33) k (replicate 256 float0) (omega arith) (omega arith) es.read-floats.ensures) ∙ ap (floats_at s (at + 33)) n.size.ensures.0)
+    (part_written (floats_there s (at + 31) k (replicate 256 float0) (omega arith) (omega arith) es.read-floats.ensures) ∙ ap (floats_at s (at + 31)) n.size.ensures.0)
     (part_written (floats_there s second numbers (replicate 1024 float0) (omega arith) (omega arith) vs.read-floats2.ensures) ∙ rw (i.input-place.ensures.0, e.end-place.ensures))
     (rw r.size2.ensures.0 (part_filled (room_at s at) 4096 filler a.requires.room))
 

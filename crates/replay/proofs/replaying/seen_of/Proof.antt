@@ -1,14 +1,14 @@
 -- `replay::replaying::seen_of` meets its contract: the sums are those of what the outcome leaves. Assumes nothing.
+use Rattle.std.proofs.Common.{◌∙◌, rules}
 use Rattle.replay.specs.Cases.{seen_of}
-use Rattle.std.proofs.Common.{rules}
 use Rattle.replay.proofs.replaying.seen_of.Statement.{statement}
 use Rattle.replay.proofs.replaying.seen_of.Tie as tie
 
 answer-requires : tie.Need-answer-requires
 answer-requires c κs = search rules
 
-tell-reading-requires : tie.Need-tell-reading-requires
-tell-reading-requires c κs = search rules
+tell-requires : tie.Need-tell-requires
+tell-requires c κs = search rules
 
 sum-up-requires : tie.Need-sum-up-requires
 sum-up-requires c κs = search rules
@@ -22,7 +22,7 @@ returns c =
     let t = c.before.before in
     let a = t.before.before.before in
     let d = a.answer.ensures in
-    rw (t.tell-reading.ensures, d.answered, c.sum-up.ensures, d.held)
+    rw (t.tell.ensures ∙ d.answered, c.sum-up.ensures, d.held)
 
 pub seen-of-spec : {M : Type 1} → statement M
-seen-of-spec = tie.close (tie.spec answer-requires tell-reading-requires sum-up-requires same_length returns)
+seen-of-spec = tie.close (tie.spec answer-requires tell-requires sum-up-requires same_length returns)

@@ -28,19 +28,12 @@ add-size-4 c = search rules
 size-requires-4 : tie.Need-size-requires-4
 size-requires-4 c κs = search rules
 
-add-size-5 : tie.Need-overflow-add-size-5
-add-size-5 c = search rules
-
-size-requires-5 : tie.Need-size-requires-5
-size-requires-5 c κs = search rules
-
 returns : tie.Need-returns
 unfolding stored_at
 returns c =
-    let c4 = c.before in
-    let c3 = c4.before in
+    let c3 = c.before in
     let c2 = c3.before in
-    rw (c2.before.size.ensures.0, c2.size2.ensures.0, c3.size3.ensures.0, c4.size4.ensures.0, c.size5.ensures.0)
+    rw (c2.before.size.ensures.0, c2.size2.ensures.0, c3.size3.ensures.0, c.size4.ensures.0)
 
 pub stored-at-spec : {M : Type 1} → statement M
 stored-at-spec =
@@ -54,6 +47,4 @@ stored-at-spec =
     size-requires-3
     add-size-4
     size-requires-4
-    add-size-5
-    size-requires-5
     returns)
