@@ -1,4 +1,6 @@
 // How a call answers: what it wrote, or why it refused.
+#![tactic(auto)]
+
 ghost use Rattle.std.specs.Prelude.{◌≡◌};
 ghost use Rattle.answers.specs.Outcome.{number_of, needed_by, told};
 
@@ -10,7 +12,7 @@ pub const MOST_BYTES: usize = 16_777_216;
 pub const MOST_NUMBERS: usize = 1_048_576;
 
 // The seven refusals of document 01, by name. ROOM carries how many places the whole answer needs.
-#[derive(Drop)]
+#[derive(Clone, Copy)]
 pub enum Refusal {
     Layout,
     Components,
@@ -22,7 +24,7 @@ pub enum Refusal {
 }
 
 // How many triangles, patches, raw numbers or bytes were written; or the refusal.
-#[derive(Drop)]
+#[derive(Clone, Copy)]
 pub enum Answer {
     Wrote(usize),
     Refused(Refusal),
@@ -30,7 +32,7 @@ pub enum Answer {
 
 // An answer as two numbers: a refusal's number or 0, and the count. With ROOM the count is how many places the answer needs, with any other refusal 0.
 #[repr(C)]
-#[derive(Drop)]
+#[derive(Clone, Copy)]
 pub struct Told {
     pub refused: usize,
     pub count: usize,

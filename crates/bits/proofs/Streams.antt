@@ -62,9 +62,9 @@ pub field_below : (s : List ℕ) (p w : ℕ) → p + w ≤ 8 * length s → fiel
 unfolding field_at
 field_below s p w h =
     let e : length (take w (drop p (stream s))) ≡ w = simp (length-take, length-drop, length-stream) (omega arith) in
-    let IsBit : ℕ → Type 0 = λ x. x < 2 in
+    let bit : ℕ → Type 0 = λ x. x < 2 in
     subst (λ (k : ℕ). number (take w (drop p (stream s))) < 2 ^ k) e
-    (number_below (take w (drop p (stream s))) (all_take IsBit w (drop p (stream s)) (all_drop IsBit p (stream s) (stream_below s))))
+    (number_below (take w (drop p (stream s))) (all_take bit w (drop p (stream s)) (all_drop bit p (stream s) (stream_below s))))
 
 -- a field of the bytes from i on is one of the whole
 pub field-from : (s : List ℕ) (i off w : ℕ) → field_at (take (length s - i) (drop i s)) off w ≡ field_at s (8 * i + off) w

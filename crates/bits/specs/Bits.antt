@@ -1,4 +1,4 @@
--- Bits are taken from the high end of each byte, bytes in order: document 01, "Bits". A IsBit is 0 or 1, a byte is below 256.
+-- Bits are taken from the high end of each byte, bytes in order: document 01, "Bits". A bit is 0 or 1, a byte is below 256.
 use Rattle.std.specs.Prelude.{ℕ, zero, suc, ◌+◌, ◌*◌, ◌/◌, ◌%◌, ◌^◌, List, [], ◌∷◌, ◌++◌, length, take, drop}
 
 -- the w low binary digits of x, high first
@@ -16,6 +16,6 @@ unfoldable pub stream : List ℕ → List ℕ
 stream [] = []
 stream (b ∷ bs) = bits_of 8 b ++ stream bs
 
--- the number of the w bits at IsBit p of the bytes s
+-- the number of the w bits at bit p of the bytes s
 unfoldable pub field_at : List ℕ → ℕ → ℕ → ℕ
 field_at s p w = number (take w (drop p (stream s)))

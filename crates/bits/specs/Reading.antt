@@ -8,7 +8,7 @@ use Rattle.bits.specs.Bits.{field_at}
 abbrev pub readable : ℕ → Bool
 readable w = leb 1 w && leb w 32
 
--- all of the n bits at IsBit p exist, and a usize counts the place after them, as it does in any slice of under 2 ^ 61 bytes
+-- all of the n bits at bit p exist, and a usize counts the place after them, as it does in any slice of under 2 ^ 61 bytes
 abbrev pub exist : List ℕ → ℕ → ℕ → Bool
 exist s p n = leb (p + n) (8 * length s) && ltb (p + n) (2 ^ 64)
 

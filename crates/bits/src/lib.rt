@@ -1,20 +1,22 @@
-// The IsBit reader: numbers of 1 to 32 bits, taken from the high end of each byte, bytes in order.
+// The bit reader: numbers of 1 to 32 bits, taken from the high end of each byte, bytes in order.
 // A place is handed in and the next one handed back; the slice is lent for each read.
+#![tactic(auto)]
+
 ghost use Rattle.std.specs.Prelude.{◌≡◌, ◌++◌, ◌+◌, ◌-◌, ◌*◌, ◌/◌, ◌%◌, ◌^◌, ◌≤◌, ◌<◌, length, get_or, replicate};
 ghost use Rattle.bits.specs.Bits.{field_at};
 ghost use Rattle.bits.specs.Reading.{readable, read_at, exhausted_at};
 ghost use Rattle.bits.specs.Inner.Gathering.{Gathers};
 
-// A IsBit position, counted from the first byte's high IsBit.
-#[derive(Drop)]
+// A bit position, counted from the first byte's high bit.
+#[derive(Clone, Copy)]
 pub struct BitPos(pub usize);
 
 // A byte place, counted from the first byte.
-#[derive(Drop)]
+#[derive(Clone, Copy)]
 pub struct BytePlace(pub usize);
 
 // What a read finds: the number and the place after it, or the end.
-#[derive(Drop)]
+#[derive(Clone, Copy)]
 pub enum BitRead {
     Number(u32, BitPos),
     End,
@@ -27,7 +29,7 @@ pub fn width_is_readable(bits: usize) -> bool
     1 <= bits && bits <= 32
 }
 
-// The byte that a IsBit position lies in.
+// The byte that a bit position lies in.
 pub fn byte_of(at: BitPos) -> BytePlace
     ensures { result.0 ≡ at.0 / 8 }
 {

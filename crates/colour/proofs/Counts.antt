@@ -19,12 +19,12 @@ gray [] h = absurd (omega arith)
 gray (a ∷ []) h = refl
 gray (a ∷ (b ∷ l)) h = absurd (omega arith)
 
-pub IsFew : (l : List Float) → (length l ≡ 1 → ⊥) → length l < 3 → colour_of l ≡ gray_of float0
+pub few : (l : List Float) → (length l ≡ 1 → ⊥) → length l < 3 → colour_of l ≡ gray_of float0
 unfolding colour_of
-IsFew [] n h = refl
-IsFew (a ∷ []) n h = absurd (n refl)
-IsFew (a ∷ (b ∷ [])) n h = refl
-IsFew (a ∷ (b ∷ (c ∷ l))) n h = absurd (omega arith)
+few [] n h = refl
+few (a ∷ []) n h = absurd (n refl)
+few (a ∷ (b ∷ [])) n h = refl
+few (a ∷ (b ∷ (c ∷ l))) n h = absurd (omega arith)
 
 pub four : (l : List Float) → length l ≡ 4 → colour_of l ≡ cmyk_of (part l 0) (part l 1) (part l 2) (part l 3)
 unfolding colour_of

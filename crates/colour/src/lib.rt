@@ -1,16 +1,18 @@
 // A colour out of its components.
+#![tactic(auto)]
+
 ghost use Rattle.std.specs.Prelude.{◌≡◌};
 ghost use Rattle.colour.specs.Light.{clamp_of, lesser_of, light_of};
 ghost use Rattle.colour.specs.Colour.{gray_of, rgb_of, cmyk_of, colour_of};
 
 // The inks of a colour: none, or four.
-#[derive(Drop)]
+#[derive(Clone, Copy)]
 pub enum Inks {
     None,
     Cmyk(f64, f64, f64, f64),
 }
 
-#[derive(Drop)]
+#[derive(Clone, Copy)]
 pub struct DeviceColor {
     pub r: f64,
     pub g: f64,

@@ -33,15 +33,15 @@ module _ (s : List ℕ) (at k : ℕ) where
   unfolding big_endian_or0
   number_too_long h = rw (lt-leb _ _ h)
 
-  module _ (IsFew : k ≤ 8) where
+  module _ (few : k ≤ 8) where
     pub number_cut : length s < at + k → 0 ≡ big_endian_or0 s at k
     unfolding big_endian_or0
-    number_cut h = rw (le-leb _ _ IsFew, lt-leb _ _ h)
+    number_cut h = rw (le-leb _ _ few, lt-leb _ _ h)
 
     -- all bytes are there
     pub number-there : at + k ≤ length s → big_endian_or0 s at k ≡ big_endian s at k
     unfolding big_endian_or0
-    number-there h = rw (le-leb _ _ IsFew, le-leb _ _ h)
+    number-there h = rw (le-leb _ _ few, le-leb _ _ h)
 
   module _ (entry : List Float) where
     pub floats_cut : length s < at + 8 * k → entry ≡ with_floats entry s at k

@@ -1,5 +1,7 @@
 // What a number of the input stands for: a raw number taken through Decode, the flag that a float of a list stands for, and the float of a
 // pattern of bits. Each operation on floats is rounded once.
+#![tactic(auto)]
+
 ghost use Rattle.std.specs.Prelude.{◌≡◌, from_bits, slice_index_or};
 ghost use Rattle.std.specs.Float.{binary64};
 ghost use Rattle.decode.specs.Decode.{scale_of, value_of, min_of, max_of, range_of, flag_of};
@@ -28,7 +30,7 @@ pub fn decode_value(raw: u32, scale: f64, min: f64) -> f64
 }
 
 // Where the numbers of a kind start, and how far apart they are.
-#[derive(Drop)]
+#[derive(Clone, Copy)]
 pub struct Range {
     pub min: f64,
     pub scale: f64,

@@ -1,4 +1,6 @@
 // Lists the mesh file that comes on standard input, or the one that the argument names: document 01, "Dump program".
+#![tactic(auto)]
+
 ghost use Rattle.std.specs.Prelude.{◌-◌, ◌≤◌, length, take};
 ghost use Rattle.lists.specs.Writing.{Written};
 ghost use Rattle.dump.specs.Inner.Reading.{Within};
@@ -9,7 +11,7 @@ use libc::{STDERR_FILENO, STDIN_FILENO, STDOUT_FILENO};
 const ROOM: usize = 65537;
 
 // What came: so many bytes; or a read failed.
-#[derive(Drop)]
+#[derive(Clone, Copy)]
 enum Input {
     Bytes(usize),
     Failed,

@@ -136,7 +136,7 @@ table =
     -- byte A5: 4 bits 10, then 4 bits 5
     row 1 (read_numbers (read_at (0xA5 ∷ []) 0 4)) (10 ∷ 4 ∷ [])
     ∷ row 1 (read_numbers (read_at (0xA5 ∷ []) 4 4)) (5 ∷ 8 ∷ [])
-    -- from IsBit 7, 32 bits over five bytes
+    -- from bit 7, 32 bits over five bytes
     ∷ row 2 (read_numbers (read_at five_bytes 7 32)) (4294967295 ∷ 39 ∷ [])
     -- 9 bits of one byte; 33 bits of five bytes
     ∷ row 3 (read_numbers (read_at (0xFF ∷ []) 0 9)) []

@@ -1,6 +1,8 @@
 // Document 01's last example, run: 32 components pass and 33 don't (COMPONENTS, 2), and an output that is exactly large enough passes where one place
 // less is refused (ROOM, 4), with the number of places that are needed as the count. Each function is called on one record of zeros that starts a mesh:
 // a triangle's three vertices in Type 4, a patch in Type 7. All widths are 8 bits.
+#![tactic(auto)]
+
 ghost use Rattle.std.specs.Prelude.{◌≤◌};
 
 use answers::Told;

@@ -29,25 +29,25 @@ module _ (m : Stream) (mesh : Source ℕ Float → ℕ → List ℕ → Finished
     unfolding parsed
     many_components h = rw e (simp (lt-ltb _ _ h) was_refused)
 
-    module _ (IsFew : m.n ≤ most_components) where
+    module _ (few : m.n ≤ most_components) where
       pub too_long : most_bytes < length s → Done (parsed m mesh s (length entry)) entry (Refused Length) entry
       unfolding parsed
-      too_long h = rw e (simp (le-ltb _ _ IsFew, lt-ltb _ _ h) was_refused)
+      too_long h = rw e (simp (le-ltb _ _ few, lt-ltb _ _ h) was_refused)
 
       pub accepted : length s ≤ most_bytes → parsed m mesh s (length entry) ≡ fitted_mesh (mesh (decode_of m) m.n (raw_of m s)) (length entry)
       unfolding parsed
-      accepted h = rw e (simp (le-ltb _ _ IsFew, le-ltb _ _ h))
+      accepted h = rw e (simp (le-ltb _ _ few, le-ltb _ _ h))
 
 module _ (mesh : Source Float Float → ℕ → List Float → Finished Float) (n : ℕ) (vs entry : List Float) where
   pub list_components : most_components < n → Done (built mesh n vs (length entry)) entry (Refused Components) entry
   unfolding built
   list_components h = simp (lt-ltb _ _ h) was_refused
 
-  module _ (IsFew : n ≤ most_components) where
+  module _ (few : n ≤ most_components) where
     pub list_too_long : most_numbers < length vs → Done (built mesh n vs (length entry)) entry (Refused Length) entry
     unfolding built
-    list_too_long h = simp (le-ltb _ _ IsFew, lt-ltb _ _ h) was_refused
+    list_too_long h = simp (le-ltb _ _ few, lt-ltb _ _ h) was_refused
 
     pub list_accepted : length vs ≤ most_numbers → built mesh n vs (length entry) ≡ fitted_mesh (mesh as_listed n vs) (length entry)
     unfolding built
-    list_accepted h = simp (le-ltb _ _ IsFew, le-ltb _ _ h)
+    list_accepted h = simp (le-ltb _ _ few, le-ltb _ _ h)

@@ -55,14 +55,14 @@ module _ (flag : Meaning) (own first coord comp n : ℕ) where
   more-ends (some b) (suc f) h = rw (eqb-suc-zero f, lt-leb (suc f) 3 h)
 
   module _ (some_bits : 1 ≤ first) (s : List ℕ) where
-    -- the raw numbers from IsBit p on, once there is a patch or not
+    -- the raw numbers from bit p on, once there is a patch or not
     abbrev rest : Bool → ℕ → List ℕ
     rest started p = readings F (length (stream s)) started (drop p (stream s))
 
     left : (p : ℕ) → length (drop p (stream s)) ≤ length (stream s)
     left p = rw length-drop (omega arith)
 
-    -- the numbers of the record at IsBit p, after its flag
+    -- the numbers of the record at bit p, after its flag
     abbrev body : ℕ → ℕ → List ℕ
     body p f = body_numbers s coord comp (2 * points_after own f) (colours_after f * n) (p + first)
 

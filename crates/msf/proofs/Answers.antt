@@ -113,7 +113,7 @@ module _ (R : Ranges) (n : ℕ) (xs : List ℕ) where
 -- so many numbers for each triangle or patch, and there is room for them
 pub record Sized (stride n count : ℕ) (xs : List Float) : Type 0 where
   pub long : length xs ≡ count * stride
-  pub IsFew : n ≤ most_components
+  pub few : n ≤ most_components
   pub fits : length xs ≤ most_answer
 
 parsed_sized : (m : Stream) (mesh : Source ℕ Float → ℕ → List ℕ → Finished Float) (s : List ℕ) (stride : ℕ) {count : ℕ} {xs : List Float}
@@ -124,14 +124,14 @@ parsed_sized m mesh s stride {count} {xs} h e =
     let M : Finished Float = mesh (decode_of m) m.n (raw_of m s) in
     let ys : List Float = M.numbers in
     let layout = passed (not (layout_readable m.coord m.comp m.flag (length m.entries))) Layout _ e in
-    let IsFew = passed (ltb most_components m.n) Components _ layout.1 in
-    let short = passed (ltb most_bytes (length s)) Length _ IsFew.1 in
+    let few = passed (ltb most_components m.n) Components _ layout.1 in
+    let short = passed (ltb most_bytes (length s)) Length _ few.1 in
     let room = passed (ltb most_answer (length ys)) (Room (length ys)) _ short.1 in
     let same : ys ≡ xs = cc room.1 in
     let counts : M.count ≡ count = cc room.1 in
     record {
       long = rw (← same, ← counts) h;
-      IsFew = ltb-false _ _ IsFew.0;
+      few = ltb-false _ _ few.0;
       fits = rw (← same) (ltb-false _ _ room.0);
     }
 

@@ -66,7 +66,7 @@ count_low kind n count h = omega (arith, mul-le-mul_left count (wide kind))
 
 -- what has to hold of numbers that are listed
 pub record Listable (kind : Kind) (n count : ℕ) (numbers : List Float) : Type 0 where
-  pub IsFew : n ≤ most_components
+  pub few : n ≤ most_components
   pub low : count < 1000
   pub there : count * stride_of kind n ≤ length numbers
   pub room : count * stride_of kind n ≤ most_answer
@@ -88,7 +88,7 @@ module _ (kind : Kind) (s : List ℕ) {entry exit : List Float} {r : Answer} (d 
         let z = sized in
         let room : count * stride_of kind (components s) ≤ most_answer = rw (← z.long) z.fits in
         record {
-          IsFew = z.IsFew;
+          few = z.few;
           low = count_low kind (components s) count room;
           there = omega (arith, z.long, begins_length begun.begins);
           room = room;

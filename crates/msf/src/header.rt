@@ -7,7 +7,7 @@ use decode::stored::big_endian;
 use records::shape::Kind;
 
 // What a type byte names.
-#[derive(Drop)]
+#[derive(Clone, Copy)]
 pub enum Named {
     Mesh(Kind),
     Nothing,

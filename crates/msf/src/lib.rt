@@ -1,4 +1,6 @@
 // The dump program's work: the listing of a file that holds a mesh, document 01's "Dump program".
+#![tactic(auto)]
+
 ghost use Rattle.std.specs.Prelude.{◌≡◌, ◌≤◌, length};
 ghost use Rattle.lists.specs.Writing.{Written};
 ghost use Rattle.answers.specs.Outcome.{Done};

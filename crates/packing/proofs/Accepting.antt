@@ -53,21 +53,21 @@ abbrev IsBit : ℕ → Type 0
 IsBit b = b < 2
 
 pub record Bits (xs bits : List ℕ) : Type 0 where
-  pub IsFew : length bits ≤ 32 * length xs
+  pub few : length bits ≤ 32 * length xs
   pub below : AllBelow 2 bits
 
 bits-more : (w x : ℕ) (xs bits rest : List ℕ) → w ≤ 32 → bits ≡ bits_of w x ++ rest → Bits xs rest → Bits (x ∷ xs) bits
 bits-more w x xs bits rest h e b =
     rw e
     (record {
-      IsFew = omega (arith, b.IsFew, length-append (bits_of w x) rest, length-bits w x);
+      few = omega (arith, b.few, length-append (bits_of w x) rest, length-bits w x);
       below = all_append IsBit (bits_of w x) rest (bits_below w x) b.below;
     })
 
 module _ (F : Format) (first : F.first ≤ 32) (more : (started : Bool) (x : ℕ) (due : List ℕ) → F.more started x ≡ some due → All IsFew due) where
   packed-bits : (started : Bool) (due xs bits : List ℕ) → All IsFew due → packed F started due xs ≡ some bits → Bits xs bits
   unfolding packed
-  packed-bits started [] [] bits a e = rw (← some-injective [] bits e) (record { IsFew = omega arith; below = tt })
+  packed-bits started [] [] bits a e = rw (← some-injective [] bits e) (record { few = omega arith; below = tt })
   packed-bits started (w ∷ due) [] bits a e = absurd (none-ne-some bits e)
   packed-bits started [] (x ∷ xs) bits a e =
       let r = record_some F started x xs bits e in

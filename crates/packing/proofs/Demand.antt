@@ -55,7 +55,7 @@ module _ (kind : Kind) (first coord comp n : ℕ) where
 begins_length : {xs ys : List ℕ} → Begins xs ys → length xs ≤ length ys
 begins_length {xs} b = omega (arith, ap length b.is, length-append xs b.rest)
 
--- an accepted list's bytes are IsFew enough for the raw reader, cut or whole, and with room for the list it gives their reading
+-- an accepted list's bytes are few enough for the raw reader, cut or whole, and with room for the list it gives their reading
 read_cut : (kind : Kind) (first coord comp n : ℕ) (xs : List ℕ) (room k : ℕ) (bs : List ℕ) (room' cut : ℕ)
     → raw_write kind first coord comp n xs room ≡ wrote k bs → length xs ≤ room'
     → let ys : List ℕ = raw_reading (format kind first coord comp n) (take cut bs) in
@@ -65,10 +65,10 @@ read_cut kind first coord comp n xs room k bs room' cut e h =
     let a = accepted kind first coord comp n xs room k bs e in
     let w = widths_readable_lem first coord comp a.widths in
     let b = accepted_bits kind first coord comp n xs a.bits w.of_first.few_bits w.of_coord.few_bits w.of_comp.few_bits a.are in
-    let whole : length bs ≤ most_bytes = omega (arith, ap length a.in_bytes_lem, length-bytes a.bits, b.IsFew, a.short) in
+    let whole : length bs ≤ most_bytes = omega (arith, ap length a.in_bytes_lem, length-bytes a.bits, b.few, a.short) in
     let size : length (take cut bs) ≤ most_bytes = omega (arith, begins_length (begins_of_take cut bs)) in
-    let IsFew = begins_length (cut_gives_beginning kind first coord comp n xs room k bs e cut) in
-    rw (a.widths, le-ltb most_components n a.components, le-ltb most_bytes (length (take cut bs)) size, le-ltb room' _ (le_trans IsFew h))
+    let few = begins_length (cut_gives_beginning kind first coord comp n xs room k bs e cut) in
+    rw (a.widths, le-ltb most_components n a.components, le-ltb most_bytes (length (take cut bs)) size, le-ltb room' _ (le_trans few h))
 
 -- the raw writer accepted xs, and the raw reader is lent the first of the bytes that it wrote, up to a cut, and room for the list
 module _ (kind : Kind) (first coord comp n : ℕ) (xs entry exit entry' exit' : List ℕ) (r r' : Answer)

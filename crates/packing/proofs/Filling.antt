@@ -31,10 +31,10 @@ unfolding stream octets
 stream-octets zero [] p e = refl
 stream-octets zero (b ∷ bits) p e = absurd (omega arith)
 stream-octets (suc k) bits p e =
-    let IsBit : ℕ → Type 0 = λ x. x < 2 in
+    let bit : ℕ → Type 0 = λ x. x < 2 in
     ap₂ (λ (x y : List ℕ). x ++ y)
-    (subst (λ (n : ℕ). bits_of n (number (take 8 bits)) ≡ take 8 bits) (length-take-le 8 bits (omega arith)) (bits_of_number (take 8 bits) (all_take IsBit 8 bits p)))
-    (stream-octets k (drop 8 bits) (all_drop IsBit 8 bits p) (omega (arith, length-drop 8 bits)))
+    (subst (λ (n : ℕ). bits_of n (number (take 8 bits)) ≡ take 8 bits) (length-take-le 8 bits (omega arith)) (bits_of_number (take 8 bits) (all_take bit 8 bits p)))
+    (stream-octets k (drop 8 bits) (all_drop bit 8 bits p) (omega (arith, length-drop 8 bits)))
     ∙ take-append-drop 8 bits
 
 -- the bits of the bytes that hold bits: those bits, and fewer than 8 zeros
@@ -48,9 +48,9 @@ pub stream-bytes : (bits : List ℕ) → AllBelow 2 bits → stream (bytes bits)
 unfolding bytes
 stream-bytes bits p =
     let zeros : ℕ = 8 * byte_count (length bits) - length bits in
-    let IsBit : ℕ → Type 0 = λ x. x < 2 in
+    let bit : ℕ → Type 0 = λ x. x < 2 in
     stream-octets (byte_count (length bits)) (bits ++ filler (length bits))
-    (all_append IsBit bits (filler (length bits)) p (all_replicate IsBit zeros 0 (lit< tt)))
+    (all_append bit bits (filler (length bits)) p (all_replicate bit zeros 0 (lit< tt)))
     (omega (arith, length-append bits (filler (length bits)), length-replicate {A = ℕ} zeros 0))
 
 -- ---- bits from bytes

@@ -60,7 +60,7 @@ bits_put count w bits x h f =
 
 pub put_none : (a : Waiting) (l : List ℕ) → a.at ≤ length l → a.count < 32 → Put a a l l []
 unfolding stream
-put_none a l h f = record { bytes = []; written = written_none l a.at h; clean = tt; IsFew = f; same = sym (append-nil _) }
+put_none a l h f = record { bytes = []; written = written_none l a.at h; clean = tt; few = f; same = sym (append-nil _) }
 
 pub put_then : {a b c : Waiting} {l m o p q : List ℕ} → Put a b l m p → Put b c m o q → Put a c l o (p ++ q)
 put_then {a} {b} {c} {l} {m} {o} {p} {q} f g =
@@ -68,7 +68,7 @@ put_then {a} {b} {c} {l} {m} {o} {p} {q} f g =
       bytes = f.bytes ++ g.bytes;
       written = written_then f.written g.written;
       clean = all_append (λ (x : ℕ). x < 256) f.bytes g.bytes f.clean g.clean;
-      IsFew = g.IsFew;
+      few = g.few;
       same =
           rw (stream-append f.bytes g.bytes, append_assoc, g.same, ← append_assoc (stream f.bytes), f.same) (append_assoc (bits_of a.count a.bits) p q);
     }
@@ -92,7 +92,7 @@ put-length f = written_length f.written
 
 -- ---- a number put
 
-module _ (a : Waiting) (x w : ℕ) (l : List ℕ) (f : x < 2 ^ w) (IsFew : a.count < 32) (w32 : w ≤ 32) where
+module _ (a : Waiting) (x w : ℕ) (l : List ℕ) (f : x < 2 ^ w) (few : a.count < 32) (w32 : w ≤ 32) where
   abbrev wide : ℕ
   wide = bit_or (a.bits * 2 ^ w % 2 ^ 64) x
 
@@ -105,7 +105,7 @@ module _ (a : Waiting) (x w : ℕ) (l : List ℕ) (f : x < 2 ^ w) (IsFew : a.cou
         bytes = [];
         written = written_none l a.at (omega arith);
         clean = tt;
-        IsFew = c;
+        few = c;
         same = bits_put a.count w a.bits x (omega arith) f;
       }
 
@@ -119,7 +119,7 @@ module _ (a : Waiting) (x w : ℕ) (l : List ℕ) (f : x < 2 ^ w) (IsFew : a.cou
         bytes = s.bytes;
         written = s.written;
         clean = s.clean;
-        IsFew = omega arith;
+        few = omega arith;
         same =
             rw s.same
             (sym (bits-add 32 left wide) ∙ ap (λ (n : ℕ). bits_of n wide) e ∙ bits_put a.count w a.bits x (omega arith) f);

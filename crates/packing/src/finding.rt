@@ -6,7 +6,7 @@ ghost use Rattle.packing.specs.Inner.Passes.{FoundIn};
 use records::shape::{Mesh, Shape, shape_of};
 
 // So many coordinates and components follow the number at an index; or the mesh ends there.
-#[derive(Drop)]
+#[derive(Clone, Copy)]
 pub enum Found {
     Record { coords: usize, comps: usize },
     End,

@@ -1,4 +1,6 @@
 // The raw writers: a list of raw numbers, flags included, packed into the bytes that a raw reader reads back.
+#![tactic(auto)]
+
 ghost use Rattle.std.specs.Prelude.{length};
 ghost use Rattle.answers.specs.Outcome.{Done};
 ghost use Rattle.records.specs.declared.shape.Kind.TheVariants.{Four, Five, Six, Seven};

@@ -9,7 +9,7 @@ use crate::finding::{Found, record_at};
 use records::shape::Mesh;
 
 // How many bits a list takes, or that it is not accepted.
-#[derive(Drop)]
+#[derive(Clone, Copy)]
 pub enum Measured {
     Bits(usize),
     Unfit,

@@ -9,7 +9,7 @@ ghost use Rattle.packing.specs.Inner.Passes.{run_at, fits, run_bits, record_fits
 use records::shape::Mesh;
 
 // `at` bytes are written; the low `count` bits of `bits` wait.
-#[derive(Drop)]
+#[derive(Clone, Copy)]
 pub struct Waiting {
     pub at: usize,
     pub count: usize,

@@ -50,7 +50,7 @@ never e = let z : ◌≡◌ {A = ℕ} 0 1 = cc in absurd (omega arith)
 
 pub list_there : (form : Form) (own n : ℕ) (s : List ℕ) (vs : List Float) → own ≡ own_of form → n ≤ most_components → length vs ≤ most_numbers
     → RecordsThere (list_records own n vs) s vs
-list_there form own n s vs e IsFew short =
+list_there form own n s vs e few short =
     let o = own_few form own e in
     record {
       fair =
@@ -62,7 +62,7 @@ list_there form own n s vs e IsFew short =
             comp_some = omega arith;
             comp-few = omega arith;
             own_few = o;
-            n-few = IsFew;
+            n-few = few;
             limit_few = omega arith;
           };
       in_list = λ t. (refl, refl, refl, refl, refl);
@@ -72,7 +72,7 @@ list_there form own n s vs e IsFew short =
 pub bits-there : (form : Form) (flag mask coord comp own n entries : ℕ) (s : List ℕ) (vs : List Float) → own ≡ own_of form
     → layout_readable coord comp (Bits flag) entries ≡ true → n ≤ most_components → length s ≤ most_bytes
     → RecordsThere (bit_records flag mask coord comp own n s) s vs
-bits-there form flag mask coord comp own n entries s vs e lay IsFew short =
+bits-there form flag mask coord comp own n entries s vs e lay few short =
     let o = own_few form own e in
     let w = layout-widths (Bits flag) coord comp entries lay in
     record {
@@ -85,7 +85,7 @@ bits-there form flag mask coord comp own n entries s vs e lay IsFew short =
             comp_some = w.of_comp.some_bits;
             comp-few = w.of_comp.few_bits;
             own_few = o;
-            n-few = IsFew;
+            n-few = few;
             limit_few = omega arith;
           };
       in_list = λ t. never (sym t);
@@ -111,15 +111,15 @@ pub list_outcome : (table : Sides) (form : Form) (own n : ℕ) (s : List ℕ) (v
     → n ≤ most_components → length vs ≤ most_numbers
     → fitted_mesh (finished_of (table_of table) (list_records own n vs) s vs R) (length entry) ≡ built_form form table vs n (length entry)
 unfolding built_form finished_of
-list_outcome table form own n s vs entry R e IsFew short =
-    rw e (sym (list_accepted (patch_mesh (table_of table) (own_of form)) n vs entry IsFew short))
+list_outcome table form own n s vs entry R e few short =
+    rw e (sym (list_accepted (patch_mesh (table_of table) (own_of form)) n vs entry few short))
 
 abbrev stream_of : Form → Meaning → ℕ → ℕ → ℕ → List Float → ℕ → Stream
 stream_of form meaning coord comp flag entries n =
     record { kind = type_of_form form; meaning = meaning; flag = Bits flag; coord = coord; comp = comp; entries = entries; n = n }
 
 module _ (flag mask coord comp n : ℕ) (entries : List Float) (s : List ℕ) (vs entry : List Float)
-    (lay : layout_readable coord comp (Bits flag) (length entries) ≡ true) (IsFew : n ≤ most_components) (short : length s ≤ most_bytes) where
+    (lay : layout_readable coord comp (Bits flag) (length entries) ≡ true) (few : n ≤ most_components) (short : length s ≤ most_bytes) where
   -- the ranges of the list are Decode's, as far as a record has kinds
   same : (own : ℕ) (xs : List ℕ) → All (Fits (4 + own)) sides
       → patch_mesh sides own (by_decode (masked mask) (held_ranges (range_list entries coord comp))) n xs
@@ -135,8 +135,8 @@ module _ (flag mask coord comp n : ℕ) (entries : List Float) (s : List ℕ) (v
   bits-outcome Coons own e =
       rw e
       (ap (λ (M : Finished Float). fitted_mesh M (length entry)) (same 8 (raw_of (stream_of Coons (masked mask) coord comp flag entries n) s) sides_fit.0)
-      ∙ sym (accepted (stream_of Coons (masked mask) coord comp flag entries n) (patch_mesh sides 8) s entry lay IsFew short))
+      ∙ sym (accepted (stream_of Coons (masked mask) coord comp flag entries n) (patch_mesh sides 8) s entry lay few short))
   bits-outcome Tensor own e =
       rw e
       (ap (λ (M : Finished Float). fitted_mesh M (length entry)) (same 12 (raw_of (stream_of Tensor (masked mask) coord comp flag entries n) s) sides_fit.1)
-      ∙ sym (accepted (stream_of Tensor (masked mask) coord comp flag entries n) (patch_mesh sides 12) s entry lay IsFew short))
+      ∙ sym (accepted (stream_of Tensor (masked mask) coord comp flag entries n) (patch_mesh sides 12) s entry lay few short))

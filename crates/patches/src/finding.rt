@@ -6,7 +6,7 @@ ghost use Rattle.patches.specs.Inner.Records.{Fair, RecordsThere, size_of, recor
 use rows::{Layout, Place};
 
 // How the records stand, which bits of a flag count, how many points a joined patch has of its own, and how many places there are.
-#[derive(Drop)]
+#[derive(Clone, Copy)]
 pub struct Records {
     pub layout: Layout,
     pub mask: u32,
@@ -15,7 +15,7 @@ pub struct Records {
 }
 
 // What stands at a place: a complete record with its flag, and the place after it; or the end of the mesh.
-#[derive(Drop)]
+#[derive(Clone, Copy)]
 pub enum Found {
     Record(usize, Place),
     End,

@@ -1,5 +1,7 @@
 // The readers and builders of Types 6 and 7, the Coons and the tensor-product patch mesh. One code serves both types, both readings, and both
 // sources of records: bits, and a list of numbers.
+#![tactic(auto)]
+
 ghost use Rattle.std.specs.Prelude.{◌≡◌, length, ◌+◌};
 ghost use Rattle.lists.specs.Lists.{All};
 ghost use Rattle.answers.specs.Outcome.{Done};
@@ -21,7 +23,7 @@ mod sides;
 mod writing;
 
 // Coons patches are Type 6, tensor-product patches are Type 7.
-#[derive(Drop)]
+#[derive(Clone, Copy)]
 enum Form {
     Coons,
     Tensor,

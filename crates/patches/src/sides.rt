@@ -3,14 +3,14 @@ ghost use Rattle.std.specs.Prelude.{◌≤◌};
 ghost use Rattle.patches.specs.Inner.Forms.{table_of, TakenSide};
 
 // By the border of a patch, from corner to corner; or by its grid of points, as the Type 7 list of 000 has it.
-#[derive(Drop)]
+#[derive(Clone, Copy)]
 pub enum Sides {
     Border,
     Grid,
 }
 
 // The places of four points and two colours.
-#[derive(Drop)]
+#[derive(Clone, Copy)]
 pub struct Side {
     pub points: [usize; 4],
     pub colours: [usize; 2],

@@ -104,7 +104,7 @@ module _ (kind : Kind) (first coord comp n : ℕ) (x y after : List ℕ) (wx : l
   changed_here k started [] e = changed_first k started
   changed_here k started (b ∷ bs) e = absurd (omega (arith, length-append bs (x ++ after)))
 
-  -- each record before the flag takes a IsBit at least, so k is enough to come to it
+  -- each record before the flag takes a bit at least, so k is enough to come to it
   changed : 1 ≤ first → (j k : ℕ) (started : Bool) (before : List ℕ) → length before < k
       → length (left F j started (before ++ (x ++ after))).bits ≡ length (x ++ after)
       → cleared F k started (before ++ (x ++ after)) ≡ cleared F k started (before ++ (y ++ after))

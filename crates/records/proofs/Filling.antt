@@ -27,7 +27,7 @@ pub nothing : (l : List ℕ) → length l ≡ 0 → l ≡ []
 nothing [] e = refl
 nothing (x ∷ l) e = absurd (omega arith)
 
--- of count numbers, p are written, and the rest stands from IsBit at on
+-- of count numbers, p are written, and the rest stands from bit at on
 pub record Filling (m : Mesh) (s l o : List ℕ) (count p at : ℕ) (started : Bool) : Type 0 where
   pub readable : Readable m
   pub short : length s ≤ most_bytes
@@ -36,7 +36,7 @@ pub record Filling (m : Mesh) (s l o : List ℕ) (count p at : ℕ) (started : B
   pub same : length o ≡ length l
   pub going : Going (raw_reading (format_of m) s) l o p (rest_at m s started at)
 
--- the next record: it stands at IsBit at, it is part of the reading, and there is room for it
+-- the next record: it stands at bit at, it is part of the reading, and there is room for it
 pub record Turn (m : Mesh) (s o : List ℕ) (count p at : ℕ) (started : Bool) (coords comps : ℕ) : Type 0 where
   pub standing : Standing m s started at coords comps (at + record_size m coords comps)
   pub within : p + (1 + coords + comps) ≤ count

@@ -124,7 +124,7 @@ module _ (F : Format) (m : ℕ) (lv : Level F m) (s : List ℕ) (short : length 
     unfolding patch_round pushed numbers sum
     by_bits zero ws l e z (yes b) h f g = absurd (omega (arith, lv.first_some))
     by_bits (suc n) ws l e z (yes b) h f g =
-        let IsFew = lv.first_some in
+        let few = lv.first_some in
         let fits : F.first + sum ws ≤ length (bits p) = rw length-bits (omega arith) in
         let r = rest n true (p + F.first + sum ws) b (omega arith) (omega arith) in
         loop-flag l e
@@ -136,7 +136,7 @@ module _ (F : Format) (m : ℕ) (lv : Level F m) (s : List ℕ) (short : length 
           add_assoc,
         ))
     by_bits n ws l e z (no b) h f g =
-        let IsFew = lv.first_some in
+        let few = lv.first_some in
         let c = reads_cut s short m (p + F.first) ws (lv.widths started _ ws z).0 e (lt_of_not-le b) in
         let on = c.onward in
         let there = rest n started c.place c.within (omega arith) (omega arith) in

@@ -117,7 +117,7 @@ pub readings_some : (F : Format) (k : ℕ) (started : Bool) (b vs : List ℕ) �
 unfolding readings
 readings_some F k started b vs e = rw (e, readings)
 
--- a record takes a IsBit at least, so any bound that is no less than the number of bits gives the same
+-- a record takes a bit at least, so any bound that is no less than the number of bits gives the same
 enough_step : (F : Format) (k m : ℕ) (started : Bool) (b : List ℕ) (o : Option (List ℕ)) → next F started b ≡ o → 1 ≤ F.first
     → length b ≤ suc k → length b ≤ suc m
     → ((c : List ℕ) → length c ≤ k → length c ≤ m → readings F k true c ≡ readings F m true c)

@@ -31,14 +31,14 @@ numbers_at_then s p vs ws = rw (numbers_then vs ws (drop p (stream s)), drop-dro
 
 -- ---- numbers of given widths, one after the other
 
--- so many of them stand at IsBit p: each width can be read, and all their bits are there
+-- so many of them stand at bit p: each width can be read, and all their bits are there
 pub record There (s : List ℕ) (p : ℕ) (ws : List ℕ) (count : ℕ) : Type 0 where
   pub sized : length ws ≡ count
   pub widths : All Width ws
   pub whole : p + sum ws ≤ 8 * length s
   pub short : length s ≤ most_bytes
 
--- k of them are written, from index q on, and the next one stands at IsBit at
+-- k of them are written, from index q on, and the next one stands at bit at
 pub record Upto (s : List ℕ) (p : ℕ) (ws : List ℕ) (count : ℕ) (l o : List ℕ) (q k at : ℕ) : Type 0 where
   pub there : There s p ws count
   pub room : q + count ≤ length l

@@ -21,7 +21,7 @@ use Rattle.records.proofs.Finding.{sum-after, length-after}
 -- what the tests of LAYOUT and COMPONENTS leave
 pub past_tests : (kind : Kind) (first coord comp n : ℕ) → widths_readable first coord comp ≡ true → n ≤ most_components
     → Readable (record { kind = kind; first = first; coord = coord; comp = comp; n = n })
-past_tests kind first coord comp n e IsFew =
+past_tests kind first coord comp n e few =
     let w = widths_readable_lem first coord comp e in
     record {
       first_some = w.of_first.some_bits;
@@ -30,7 +30,7 @@ past_tests kind first coord comp n e IsFew =
       coord-few = w.of_coord.few_bits;
       comp_some = w.of_comp.some_bits;
       comp-few = w.of_comp.few_bits;
-      n-few = IsFew;
+      n-few = few;
     }
 
 -- ---- one record
@@ -58,9 +58,9 @@ pub rest_record : {m : Mesh} {s : List ℕ} {started : Bool} {p coords comps end
     → rest_at m s started p ≡ numbers_at s p (m.first ∷ widths_after m coords comps) ++ rest_at m s true end
 unfolding rest_at numbers_at sum
 rest_record {m} {s} {started} {p} {coords} {comps} {end} r st =
-    let IsFew : length (drop p (stream s)) ≤ length (stream s) = rw length-drop (omega arith) in
+    let few : length (drop p (stream s)) ≤ length (stream s) = rw length-drop (omega arith) in
     let e : p + (m.first + sum (widths_after m coords comps)) ≡ end = omega (arith, st.ends, sum-after m coords comps) in
-    readings_on (format_of m) (length (stream s)) started (drop p (stream s)) (m.first ∷ widths_after m coords comps) r.first_some IsFew st.widths
+    readings_on (format_of m) (length (stream s)) started (drop p (stream s)) (m.first ∷ widths_after m coords comps) r.first_some few st.widths
     ∙ rw (drop-drop, e)
 
 -- ---- counting
@@ -68,11 +68,11 @@ rest_record {m} {s} {started} {p} {coords} {comps} {end} r st =
 -- at a place, with so many numbers before it
 pub record Counting (m : Mesh) (s : List ℕ) (count at : ℕ) (started : Bool) : Type 0 where
   pub within : at ≤ 8 * length s
-  pub IsFew : count ≤ 161 * at
+  pub few : count ≤ 161 * at
   pub total : length (raw_reading (format_of m) s) ≡ count + length (rest_at m s started at)
 
 pub count_start : (m : Mesh) (s : List ℕ) → Counting m s 0 0 false
-count_start m s = record { within = omega arith; IsFew = omega arith; total = rw rest_start (omega arith) }
+count_start m s = record { within = omega arith; few = omega arith; total = rw rest_start (omega arith) }
 
 module _ {m : Mesh} {s : List ℕ} {started : Bool} {at count : ℕ} (w : Counting m s count at started) where
   pub count_end : next (format_of m) started (drop at (stream s)) ≡ none → count ≡ length (raw_reading (format_of m) s)
@@ -83,7 +83,7 @@ module _ {m : Mesh} {s : List ℕ} {started : Bool} {at count : ℕ} (w : Counti
   count_step {coords} {comps} {end} r st =
       record {
         within = st.whole;
-        IsFew = omega (arith, w.IsFew, st.ends, st.coords-few, st.comps-few, r.first_some);
+        few = omega (arith, w.few, st.ends, st.coords-few, st.comps-few, r.first_some);
         total =
             omega (
               arith,

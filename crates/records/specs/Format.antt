@@ -91,6 +91,6 @@ readings F zero started bits = []
 readings F (suc k) started bits =
     elim (next F started bits) [ none ↦ [] | some ws ↦ numbers ws bits ++ readings F k true (drop (sum ws) bits) ]
 
--- the raw reading of bytes. A record takes a IsBit at least, so there are no more records than bits
+-- the raw reading of bytes. A record takes a bit at least, so there are no more records than bits
 unfoldable pub raw_reading : Format → List ℕ → List ℕ
 raw_reading F s = readings F (length (stream s)) false (stream s)

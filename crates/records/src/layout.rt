@@ -3,7 +3,7 @@ ghost use Rattle.std.specs.Prelude.{◌≡◌};
 ghost use Rattle.records.specs.Layout.{first_width, widths_readable, layout_readable};
 
 // The width of a flag in bits; Type 5 has none.
-#[derive(Drop)]
+#[derive(Clone, Copy)]
 pub enum FlagWidth {
     Absent,
     Bits(usize),

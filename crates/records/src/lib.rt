@@ -1,4 +1,6 @@
 // The layout test, the shape of each mesh type's records, and the raw readers.
+#![tactic(auto)]
+
 pub mod layout;
 pub mod raw;
 pub mod shape;

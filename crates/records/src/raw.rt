@@ -15,7 +15,7 @@ use answers::{Answer, Refusal};
 use bits::{BitPos, BitRead};
 
 // What stands at a place: a complete record, with so many coordinates and components after its first number; or none, and the reading ends.
-#[derive(Drop)]
+#[derive(Clone, Copy)]
 enum Found {
     Record {
         coords: usize,

@@ -3,7 +3,7 @@ ghost use Rattle.std.specs.Prelude.{◌≡◌, ◌≤◌};
 ghost use Rattle.records.specs.Format.{shape_of, patch_shape};
 
 // The four mesh types.
-#[derive(Drop)]
+#[derive(Clone, Copy)]
 pub enum Kind {
     Four,
     Five,
@@ -12,7 +12,7 @@ pub enum Kind {
 }
 
 // A mesh's type, the widths of a record's first number, of a coordinate and of a component, and the components of a colour.
-#[derive(Drop)]
+#[derive(Clone, Copy)]
 pub struct Mesh {
     pub kind: Kind,
     pub first: usize,
@@ -22,7 +22,7 @@ pub struct Mesh {
 }
 
 // So many coordinates and colours follow; or the mesh ends.
-#[derive(Drop)]
+#[derive(Clone, Copy)]
 pub enum Shape {
     Follows { coords: usize, colours: usize },
     Ends,

@@ -55,7 +55,7 @@ pub record Sizes (s : List ℕ) (at entries second end room : ℕ) : Type 0 wher
   pub entries-end : at + 31 + 8 * entries ≡ second
   pub input_end : second ≤ end
   pub file_end : end ≤ length s
-  pub IsFew : end - second ≤ 8192
+  pub few : end - second ≤ 8192
   pub small : room ≤ 4096
 
 pub sizes : (s : List ℕ) (at : ℕ) → CaseThere s at
@@ -63,7 +63,7 @@ pub sizes : (s : List ℕ) (at : ℕ) → CaseThere s at
 unfolding input_place end_place
 sizes s at w =
     let n = few_bytes (call_at s at).function (input_at s at) in
-    record { entries-end = omega arith; input_end = omega arith; file_end = w.end; IsFew = omega (arith, w.input); small = w.room }
+    record { entries-end = omega arith; input_end = omega arith; file_end = w.end; few = omega (arith, w.input); small = w.room }
 
 next_of : (whole same : Bool) (seen : Seen) (at next size : ℕ) → (whole ≡ true → (at < next) × (next ≤ size))
     → Moves at size (cond whole (cond same (Agrees next) (Differs seen next)) Unreadable)

@@ -8,7 +8,7 @@ use answers::{Answer, Refusal};
 use records::shape::Kind;
 
 // The binary reader of a mesh type, or the builder from a list.
-#[derive(Drop)]
+#[derive(Clone, Copy)]
 pub enum Function {
     Reader(Kind),
     Builder(Kind),
@@ -16,7 +16,7 @@ pub enum Function {
 }
 
 // A call but for its input: the function, the widths of a coordinate, a component and a flag, the count of components, and the row length.
-#[derive(Drop)]
+#[derive(Clone, Copy)]
 pub struct Call {
     pub function: Function,
     pub coord: usize,

@@ -18,6 +18,8 @@
 // The first is the sum of the numbers' bits, the second the sum of the first as it runs, both modulo 2^64; a NaN counts as the bits 7ff8000000000000.
 //
 // Files are named in args. A case that is cut, or is none by the above, disagrees and ends its file.
+#![tactic(auto)]
+
 ghost use Rattle.std.specs.Prelude.{◌≡◌};
 ghost use Rattle.replay.specs.Tallies.{tally};
 
@@ -30,7 +32,7 @@ mod digests;
 mod replaying;
 
 // The cases of a file that agree and that disagree.
-#[derive(Drop)]
+#[derive(Clone, Copy)]
 struct Tally {
     agree: u64,
     disagree: u64,

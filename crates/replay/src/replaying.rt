@@ -10,7 +10,7 @@ use crate::{calls, digests};
 use decode::stored::{big_endian, read_floats};
 
 // What a call has answered, and the sums of the lent output after it.
-#[derive(Drop)]
+#[derive(Clone, Copy)]
 pub struct Seen {
     pub refused: usize,
     pub count: usize,
@@ -19,7 +19,7 @@ pub struct Seen {
 }
 
 // The case agrees; or it doesn't, with what was seen; both with the index after it. Or no case can be read.
-#[derive(Drop)]
+#[derive(Clone, Copy)]
 pub enum Replayed {
     Agrees(usize),
     Differs(Seen, usize),

@@ -55,17 +55,17 @@ module _ (L : Layout) (s : List ℕ) (vs : List Float) where
     pub points_written : {next : ℕ} (k p : ℕ) → Placed (run_fits L s vs (points_alone k) p at (length entry)) entry exit at (points_at (numbers_of L s vs R) L.coord k p) next
         → NumbersThere L s vs p (k * (2 * L.coord)) → k ≤ 16 → at + 2 * k ≤ length entry
         → (next ≡ at + 2 * k) × Written entry exit at (points_at (numbers_of L s vs R) L.coord k p) next
-    points_written k p d w IsFew h =
+    points_written k p d w few h =
         let st : NumbersThere L s vs p (run_places L (points_alone k)) = standing_less L s vs p _ _ w (omega arith) in
-        placed_sized (2 * k) d (run_fits_lem L s vs (points_alone k) p at (length entry) st IsFew (omega arith) (omega arith))
+        placed_sized (2 * k) d (run_fits_lem L s vs (points_alone k) p at (length entry) st few (omega arith) (omega arith))
         (length-points_at _ _ _ _) h
 
     pub colours_written : {next : ℕ} (k p : ℕ) → Placed (run_fits L s vs (colours_alone k) p at (length entry)) entry exit at (colours_at (numbers_of L s vs R) L.comp L.n k p) next
         → NumbersThere L s vs p (k * (L.n * L.comp)) → k ≤ 4 → at + k * (8 + L.n) ≤ length entry
         → (next ≡ at + k * (8 + L.n)) × Written entry exit at (colours_at (numbers_of L s vs R) L.comp L.n k p) next
-    colours_written k p d w IsFew h =
+    colours_written k p d w few h =
         let st : NumbersThere L s vs p (run_places L (colours_alone k)) = standing_less L s vs p _ _ w (omega arith) in
-        placed_sized (k * (8 + L.n)) d (run_fits_lem L s vs (colours_alone k) p at (length entry) st (omega arith) IsFew (omega arith))
+        placed_sized (k * (8 + L.n)) d (run_fits_lem L s vs (colours_alone k) p at (length entry) st (omega arith) few (omega arith))
         (length-colours_at _ _ _ _ _) h
 
     pub corner_placed : {next : ℕ} (p side : ℕ)

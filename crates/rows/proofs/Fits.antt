@@ -141,7 +141,7 @@ module _ (n side at room : ℕ) where
 
   pub rows_fit_lem : n ≤ 32 → row_index side (10 + n) at + (10 + n) ≤ room → (side < at → side + (10 + n) ≤ at) → rows_fit n side at room ≡ true
   unfolding rows_fit
-  rows_fit_lem IsFew h b = by_side (ltb side at) refl
+  rows_fit_lem few h b = by_side (ltb side at) refl
     where
       by_side : (t : Bool) → ltb side at ≡ t
           → leb n 32 && cond (ltb side at) (leb (side + (10 + n)) at && leb (at + 3 * (10 + n)) room) (leb (at + (10 + n)) room) ≡ true
@@ -149,10 +149,10 @@ module _ (n side at room : ℕ) where
           let first = b (ltb-true _ _ q) in
           let last : at + 2 * (10 + n) + (10 + n) ≤ room = rw q at h in
           let all : at + 3 * (10 + n) ≤ room = omega arith in
-          rw (q, le-leb _ _ IsFew, le-leb _ _ first, le-leb _ _ all)
+          rw (q, le-leb _ _ few, le-leb _ _ first, le-leb _ _ all)
       by_side false q =
           let all : at + (10 + n) ≤ room = rw q at h in
-          rw (q, le-leb _ _ IsFew, le-leb _ _ all)
+          rw (q, le-leb _ _ few, le-leb _ _ all)
 
 -- by the answer r of a test
 pub width_small : (w : ℕ) {r : Bool} → r ≡ readable w → not r ≡ false → w ≤ 32

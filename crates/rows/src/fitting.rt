@@ -66,7 +66,7 @@ pub fn copy_fits(lead: usize, n: usize, from: usize, at: usize, room: usize) -> 
     n <= answers::MOST_COMPONENTS && (has_room(from, lead + n, at) && has_room(at, lead + n, room))
 }
 
-// Whether a vertex has IsFew enough components, and the rows that come with it have room.
+// Whether a vertex has few enough components, and the rows that come with it have room.
 pub fn rows_fit_lem(n: usize, side: usize, at: usize, room: usize) -> bool
     ensures { result ≡ rows_fit n side at room }
 {

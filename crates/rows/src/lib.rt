@@ -1,5 +1,7 @@
 // A record's numbers, from bits or from a list, decoded and written as rows into a lent output.
 // Each public function tests first that all it needs is there; else it changes nothing.
+#![tactic(auto)]
+
 ghost use Rattle.std.specs.Prelude.{◌≡◌, ◌++◌, ◌+◌, length};
 ghost use Rattle.std.specs.Float.{nan};
 ghost use Rattle.lists.specs.Lists.{part};
@@ -23,7 +25,7 @@ pub const TWO_LOW_BITS: u32 = 3;
 
 // How the numbers of a record stand. In bits a flag, a coordinate and a component have so many; in a list each number takes one place. A colour has n
 // components.
-#[derive(Drop)]
+#[derive(Clone, Copy)]
 pub struct Layout {
     pub listed: bool,
     pub flag: usize,
@@ -32,19 +34,19 @@ pub struct Layout {
     pub n: usize,
 }
 
-// Where a number begins: a IsBit, or an index of a list.
-#[derive(Drop)]
+// Where a number begins: a bit, or an index of a list.
+#[derive(Clone, Copy)]
 pub struct Place(pub usize);
 
 // So many points, and after them so many colours: what a record has, or a part of it.
-#[derive(Drop)]
+#[derive(Clone, Copy)]
 pub struct Run {
     pub points: usize,
     pub colours: usize,
 }
 
 // A vertex goes by value. Its components stand beside it, in the output that gets its row.
-#[derive(Drop)]
+#[derive(Clone, Copy)]
 pub struct Vertex {
     pub x: f64,
     pub y: f64,

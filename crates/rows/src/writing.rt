@@ -29,7 +29,7 @@ fn write_four(a: f64, b: f64, c: f64, d: f64, out: &mut [f64], at: usize) -> usi
 }
 
 // The five numbers that tell a colour's inks.
-#[derive(Drop)]
+#[derive(Clone, Copy)]
 struct InkNumbers {
     mark: f64,
     c: f64,

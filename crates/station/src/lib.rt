@@ -1,4 +1,6 @@
 // The library for C and Rust programs: each function tells what the library's own function answers.
+#![tactic(auto)]
+
 ghost use Rattle.std.specs.Prelude.{[], length};
 ghost use Rattle.std.proofs.Math.Option.{none};
 ghost use Rattle.answers.specs.Outcome.{Tells};

@@ -37,15 +37,15 @@ module _ {A B : Type 0} (T : Turning A B) (n size : ℕ) (whole : Bool) (ps : Li
   unfolding turned
   many_components h = simp (lt-ltb _ _ h) was_refused
 
-  module _ (IsFew : n ≤ most_components) where
+  module _ (few : n ≤ most_components) where
     pub many_numbers : most_numbers < size → Done (turned T n size whole ps (length l)) l (Refused Length) l
     unfolding turned
-    many_numbers h = simp (le-ltb _ _ IsFew, lt-ltb _ _ h) was_refused
+    many_numbers h = simp (le-ltb _ _ few, lt-ltb _ _ h) was_refused
 
     module _ (short : size ≤ most_numbers) where
       pub not_whole : whole ≡ false → Done (turned T n size whole ps (length l)) l (Refused Record) l
       unfolding turned
-      not_whole e = simp (le-ltb _ _ IsFew, le-ltb _ _ short, e) was_refused
+      not_whole e = simp (le-ltb _ _ few, le-ltb _ _ short, e) was_refused
 
       module _ (is_whole : whole ≡ true) where
         -- m numbers to a colour, and row to a patch
@@ -53,10 +53,10 @@ module _ {A B : Type 0} (T : Turning A B) (n size : ℕ) (whole : Bool) (ps : Li
             → length l < count * row → Done (turned T n size whole ps (length l)) l (Refused (Room (count * row))) l
         unfolding turned
         small_output m row r all e h =
-            simp (le-ltb _ _ IsFew, le-ltb _ _ short, is_whole)
+            simp (le-ltb _ _ few, le-ltb _ _ short, is_whole)
             (no_room_for (length ps) (flat (λ p. numbers_of (tensor_patch T p)) ps) row (length-rows T m ps all ∙ ap (λ (k : ℕ). length ps * k) (sym r)) e h)
 
         pub wrote_all : {count : ℕ} {o : List B} {p : ℕ} → count ≡ length ps → Written l o 0 (flat (λ p. numbers_of (tensor_patch T p)) ps) p
             → Done (turned T n size whole ps (length l)) l (Wrote count) o
         unfolding turned
-        wrote_all e w = simp (le-ltb _ _ IsFew, le-ltb _ _ short, is_whole) (all_written e w)
+        wrote_all e w = simp (le-ltb _ _ few, le-ltb _ _ short, is_whole) (all_written e w)

@@ -33,7 +33,7 @@ never e = let z : ◌≡◌ {A = ℕ} 1 0 = ap (λ (b : Bool). cond b 1 0) e in 
 pub record Followed (n : ℕ) (started : Bool) (x coords colours : ℕ) : Type 0 where
   pub sized : coords + colours * n ≡ size_after 8 n x
   pub small : coords + colours * n ≤ 24 + 4 * n
-  pub IsFew : x ≤ 3
+  pub few : x ≤ 3
   pub begun : 1 ≤ x → started ≡ true
 
 abbrev coords_in : Shape → ℕ
@@ -48,7 +48,7 @@ pub followed : (n : ℕ) (started : Bool) (x coords colours : ℕ) → shape_of 
 followed n started zero coords colours e =
     let c : 25 ≡ suc coords = ap coords_in e in
     let k : 4 ≡ colours = ap colours_in e in
-    record { sized = rw (← k) (omega arith); small = rw (← k) (omega arith); IsFew = omega arith; begun = λ h. absurd (omega arith) }
+    record { sized = rw (← k) (omega arith); small = rw (← k) (omega arith); few = omega arith; begun = λ h. absurd (omega arith) }
 followed n started (suc f) coords colours e = go started refl (leb (suc f) 3) refl (rw (eqb-suc-zero f) at e)
   where
     go : (t : Bool) → started ≡ t → (u : Bool) → leb (suc f) 3 ≡ u → cond (t && u) (Follows 16 2) Ends ≡ Follows coords colours
@@ -56,7 +56,7 @@ followed n started (suc f) coords colours e = go started refl (leb (suc f) 3) re
     go true p true q e =
         let c : 17 ≡ suc coords = ap coords_in e in
         let k : 2 ≡ colours = ap colours_in e in
-        record { sized = rw (← k) (omega arith); small = rw (← k) (omega arith); IsFew = leb-true (suc f) 3 q; begun = λ h. p }
+        record { sized = rw (← k) (omega arith); small = rw (← k) (omega arith); few = leb-true (suc f) 3 q; begun = λ h. p }
     go true p false q e = let c : 0 ≡ suc coords = ap coords_in e in absurd (omega arith)
     go false p u q e = let c : 0 ≡ suc coords = ap coords_in e in absurd (omega arith)
 

@@ -1,5 +1,7 @@
 // Coons patches turned into tensor-product patches, so that a renderer needs to know one kind: on raw numbers exactly, every coordinate times nine,
 // and on f64.
+#![tactic(auto)]
+
 ghost use Rattle.std.specs.Prelude.{length};
 ghost use Rattle.answers.specs.Outcome.{Done};
 ghost use Rattle.tensor.specs.Outcomes.{coons_to_tensor_raw, coons_to_tensor};

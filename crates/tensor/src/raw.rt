@@ -14,7 +14,7 @@ use records::shape::{Kind, Shape, shape_of};
 
 // A patch by where its numbers stand in the list: the eight points after its first side begin at index own, its colours at c00, c03 and c33, with c30
 // right after c33. The eight coordinates of the first side are here.
-#[derive(Drop)]
+#[derive(Clone, Copy)]
 struct Coons {
     side: [u32; 8],
     own: usize,
@@ -24,7 +24,7 @@ struct Coons {
 }
 
 // How many patches a list has; or that it is not whole records.
-#[derive(Drop)]
+#[derive(Clone, Copy)]
 pub enum Counted {
     Patches(usize),
     Broken,

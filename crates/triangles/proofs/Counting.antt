@@ -33,12 +33,12 @@ module _ (flag : ℕ → ℕ) (total : ℕ) where
     pub before : Option Tri
     pub walk : Walk triangle_before flag_list i done before
     pub counted : length done ≡ count
-    pub IsFew : count ≤ i
+    pub few : count ≤ i
     pub inside : i ≤ total
 
   pub counting_start : Counting 0 0
   counting_start =
-      record { done = []; before = none; walk = walk_start triangle_before flag_list; counted = refl; IsFew = omega arith; inside = omega arith }
+      record { done = []; before = none; walk = walk_start triangle_before flag_list; counted = refl; few = omega arith; inside = omega arith }
 
   module _ {count i : ℕ} (c : Counting count i) where
     -- a vertex or three more, and a triangle
@@ -49,13 +49,13 @@ module _ (flag : ℕ → ℕ) (total : ℕ) where
           before = before;
           walk = w;
           counted = length-append c.done (t ∷ []) ∙ ap (λ (k : ℕ). k + 1) c.counted;
-          IsFew = omega (arith, c.IsFew);
+          few = omega (arith, c.few);
           inside = m;
         }
 
     -- one more, and none
     passes : i < total → Walk triangle_before flag_list (i + 1) c.done c.before → Counting count (i + 1)
-    passes h w = record { done = c.done; before = c.before; walk = w; counted = c.counted; IsFew = omega (arith, c.IsFew); inside = omega arith }
+    passes h w = record { done = c.done; before = c.before; walk = w; counted = c.counted; few = omega (arith, c.few); inside = omega arith }
 
     pub counting_first : i + 3 ≤ total → flag i ≡ 0 → Counting (count + 1) (i + 3)
     counting_first h z =

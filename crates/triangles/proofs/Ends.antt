@@ -53,9 +53,9 @@ list_layout flag n = record { listed = true; flag = flag; coord = 1; comp = 1; n
 
 pub there-bits : (s : List ℕ) (vs : List Float) (coord comp flag mask n : ℕ) → 1 ≤ coord → coord ≤ 32 → 1 ≤ comp → comp ≤ 32 → n ≤ most_components
     → length s ≤ most_bytes → VerticesThere (vertices_in (bit_layout flag coord comp n) mask (8 * length s)) s vs
-there-bits s vs coord comp flag mask n a b c d IsFew short =
+there-bits s vs coord comp flag mask n a b c d few short =
     record {
-      IsFew = IsFew;
+      few = few;
       sized = refl;
       in_bits = λ e.
           record {
@@ -71,9 +71,9 @@ there-bits s vs coord comp flag mask n a b c d IsFew short =
 
 pub there_list : (s : List ℕ) (vs : List Float) (flag mask n : ℕ) → n ≤ most_components → length vs ≤ most_numbers
     → VerticesThere (vertices_in (list_layout flag n) mask (length vs)) s vs
-there_list s vs flag mask n IsFew short =
+there_list s vs flag mask n few short =
     record {
-      IsFew = IsFew;
+      few = few;
       sized = refl;
       in_bits = λ e. false_true e;
       in_list = λ e. record { coord_one = refl; comp_one = refl; whole = div-mul-le_self (length vs) (flag + (2 * 1 + n * 1)); short = short };
@@ -107,7 +107,7 @@ finishes : {o : Outcome Float} {m m' : Finished Float} {entry exit : List Float}
     → Tells (fitted_mesh m' (length entry)) entry t exit → Tells o entry t exit
 finishes {o} {m} {m'} {entry} {exit} {t} e g d = rw (e ∙ ap (λ (k : Finished Float). fitted_mesh k (length entry)) g) d
 
-module _ (s : List ℕ) (vs : List Float) (coord comp : ℕ) (dec : List Float) (n : ℕ) (IsFew : n ≤ most_components) (short : length s ≤ most_bytes) where
+module _ (s : List ℕ) (vs : List Float) (coord comp : ℕ) (dec : List Float) (n : ℕ) (few : n ≤ most_components) (short : length s ≤ most_bytes) where
   abbrev held : Ranges
   held = held_ranges (range_list dec coord comp)
 
@@ -122,7 +122,7 @@ module _ (s : List ℕ) (vs : List Float) (coord comp : ℕ) (dec : List Float) 
   type4_ended {entry} flag mask e d =
       let m : Stream = record { kind = Four; meaning = masked mask; flag = Bits flag; coord = coord; comp = comp; entries = dec; n = n } in
       let w = layout-widths (Bits flag) coord comp (length dec) e in
-      finishes (accepted m (type4_mesh (triangles triangle_before)) s entry e IsFew short)
+      finishes (accepted m (type4_mesh (triangles triangle_before)) s entry e few short)
       (sym (type4_alike (masked mask) held (ranges dec coord comp) n alike (triangles triangle_before) (raw_of m s))
       ∙ mesh_of_type4 s held coord comp n (masked mask) flag w.of_first.some_bits triangle_before) d
 
@@ -134,11 +134,11 @@ module _ (s : List ℕ) (vs : List Float) (coord comp : ℕ) (dec : List Float) 
   type5_ended {entry} mask row e d =
       let m : Stream = record { kind = Five; meaning = whole_number; flag = Absent; coord = coord; comp = comp; entries = dec; n = n } in
       let w = layout-widths Absent coord comp (length dec) e in
-      finishes (accepted m (type5_mesh row) s entry e IsFew short)
+      finishes (accepted m (type5_mesh row) s entry e few short)
       (sym (type5_alike whole_number held (ranges dec coord comp) n alike row (raw_of m s))
       ∙ mesh_of_type5 s held coord comp n w.of_coord.some_bits row) d
 
-module _ (s : List ℕ) (vs : List Float) (n : ℕ) (R : Ranges) {entry exit : List Float} {t : Told} (IsFew : n ≤ most_components)
+module _ (s : List ℕ) (vs : List Float) (n : ℕ) (R : Ranges) {entry exit : List Float} {t : Told} (few : n ≤ most_components)
     (short : length vs ≤ most_numbers) where
   pub list4_ended : (mask : ℕ) (last : Bool)
       → let v : Vertices = vertices_in (list_layout 1 n) mask (length vs) in
@@ -146,11 +146,11 @@ module _ (s : List ℕ) (vs : List Float) (n : ℕ) (R : Ranges) {entry exit : L
       → Tells (build4 (triangles (rule_of last)) vs n (length entry)) entry t exit
   unfolding triangles_in flag_of_vertex row_of_vertex numbers_of flag_in
   list4_ended mask last d =
-      finishes (list_accepted (type4_mesh (triangles (rule_of last))) n vs entry IsFew short) (mesh_of_list4 vs n (rule_of last)) d
+      finishes (list_accepted (type4_mesh (triangles (rule_of last))) n vs entry few short) (mesh_of_list4 vs n (rule_of last)) d
 
   pub list5_ended : (mask row : ℕ)
       → let v : Vertices = vertices_in (list_layout 0 n) mask (length vs) in
       Tells (fitted_mesh (finished (lattice v.total row) (row_of_vertex v s vs R)) (length entry)) entry t exit
       → Tells (build5 vs n row (length entry)) entry t exit
   unfolding row_of_vertex numbers_of
-  list5_ended mask row d = finishes (list_accepted (type5_mesh row) n vs entry IsFew short) (mesh_of_list5 vs n row) d
+  list5_ended mask row d = finishes (list_accepted (type5_mesh row) n vs entry few short) (mesh_of_list5 vs n row) d

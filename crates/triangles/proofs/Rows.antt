@@ -47,7 +47,7 @@ module _ {v : Vertices} {s : List ℕ} {vs : List Float} (h : VerticesThere v s 
   stands : NumbersThere v.layout s vs (i * v.size + v.layout.flag) (2 * v.layout.coord + v.layout.n * v.layout.comp)
   stands =
       record {
-        n-few = h.IsFew;
+        n-few = h.few;
         in_list = λ e. let l = h.in_list e in (l.coord_one, l.comp_one, omega (arith, ends_in_list e, h.sized));
         in_bits = λ e.
             let b = h.in_bits e in
@@ -113,7 +113,7 @@ module _ {v : Vertices} {s : List ℕ} {vs : List Float} (h : VerticesThere v s 
   -- a usize counts the numbers of so many triangles
   pub numbers_small : (count : ℕ) → count ≤ 2 * v.total → count * (3 * (v.layout.n + 10)) < 2 ^ 64
   numbers_small count k =
-      let f = h.IsFew in
+      let f = h.few in
       let a : 3 * (v.layout.n + 10) ≤ 126 = omega arith in
       let b : count ≤ 268435456 = omega (arith, total_small) in
       omega (arith, mul-le-mul b a)

@@ -58,7 +58,7 @@ fn write_row(
 
 // A cell of rows of so many vertices: its first vertex i, and where the rows of i, of i + 1 and of j, the vertex below i, stand in out already. A row
 // that does not stand there has an index past the end.
-#[derive(Drop)]
+#[derive(Clone, Copy)]
 struct Cell {
     row: usize,
     i: usize,

@@ -1,5 +1,7 @@
 // The readers and builders of Types 4 and 5, the free_form_lem and the lattice_form_lem triangle mesh. One code serves both sources of vertices, bits and a
 // list of numbers, and both readings.
+#![tactic(auto)]
+
 ghost use Rattle.std.specs.Prelude.{false, [], length};
 ghost use Rattle.std.proofs.Math.Option.{none};
 ghost use Rattle.answers.specs.Outcome.{Done};

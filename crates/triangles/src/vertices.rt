@@ -9,7 +9,7 @@ ghost use Rattle.triangles.specs.Inner.Vertices.{vertices_in, VerticesThere, Fla
 use rows::{Layout, Place};
 
 // How the vertices stand one after the other: each takes size places, of which those of its flag come first. The mask has the bits of a flag that count.
-#[derive(Drop)]
+#[derive(Clone, Copy)]
 pub struct Vertices {
     pub layout: Layout,
     pub mask: u32,

@@ -1,7 +1,7 @@
 -- `colour::components_to_color` meets its contract: a law of proofs/Counts.antt for each count. Assumes nothing.
 use native.Mathlib.Omega.{arith}
 use lib.Ieee.{of_bits}
-use Rattle.colour.proofs.Counts.{gray, IsFew, four, more}
+use Rattle.colour.proofs.Counts.{gray, few, four, more}
 use borrow.Author.Rules.{rules}
 use Rattle.colour.proofs.components_to_color.Statement.{statement}
 use Rattle.colour.proofs.components_to_color.Tie as tie
@@ -24,7 +24,7 @@ from-gray-requires-2 c κs = search rules
 
 returns-2 : tie.Need-returns-2
 unfolding of_bits
-returns-2 c = cc (IsFew c.before.before.before.before.args.comps.now (omega arith) (omega arith))
+returns-2 c = cc (few c.before.before.before.before.args.comps.now (omega arith) (omega arith))
 
 shared-slice-read-clamp01-2 : tie.Need-shared-slice-read-clamp01-2
 shared-slice-read-clamp01-2 c = search rules

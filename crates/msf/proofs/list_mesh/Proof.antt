@@ -33,7 +33,7 @@ put-listing-requires c κs =
     let c8 = c6.before.before in
     let a = c8.before.before.before.args in
     let m = mesh_listable a.kind a.file.now c6.read-mesh.ensures c3.count.given.1 in
-    rw c8.byte_at.ensures.0 (m.IsFew, m.low, m.there, omega (arith, m.room))
+    rw c8.byte_at.ensures.0 (m.few, m.low, m.there, omega (arith, m.room))
 
 same_length : tie.Need-same-length
 same_length c = search rules

@@ -75,5 +75,5 @@ pub record Put (a b : Waiting) (entry exit bits : List ℕ) : Type 0 where
   pub bytes : List ℕ
   pub written : Written entry exit a.at bytes b.at
   pub clean : AllBelow 256 bytes
-  pub IsFew : b.count < 32
+  pub few : b.count < 32
   pub same : stream bytes ++ bits_of b.count b.bits ≡ bits_of a.count a.bits ++ bits

@@ -17,7 +17,7 @@ use Rattle.patches.specs.declared.finding.Records.{Records}
 use Rattle.patches.specs.declared.finding.Found.{Found}
 use Rattle.patches.specs.declared.finding.Found.TheVariants.{Record, End}
 
--- past the tests of LAYOUT and COMPONENTS, with IsFew enough places
+-- past the tests of LAYOUT and COMPONENTS, with few enough places
 pub record Fair (m : Records) : Type 0 where
   pub flag_some : 1 ≤ m.layout.flag
   pub flag-few : m.layout.flag ≤ 32

@@ -34,18 +34,18 @@ record_size m coords comps = m.first + (coords * m.coord + comps * m.comp)
 
 -- ---- the walk over bytes
 
--- count numbers of a width stand at IsBit p
+-- count numbers of a width stand at bit p
 pub record Run (s : List ℕ) (p width count : ℕ) : Type 0 where
   pub some_bits : 1 ≤ width
   pub few_bits : width ≤ 32
   pub whole : p + count * width ≤ 8 * length s
   pub short : length s ≤ most_bytes
 
--- the numbers of the given widths at IsBit p
+-- the numbers of the given widths at bit p
 unfoldable pub numbers_at : List ℕ → ℕ → List ℕ → List ℕ
 numbers_at s p ws = numbers ws (drop p (stream s))
 
--- a complete record at IsBit p, with so many coordinates and components after its first number
+-- a complete record at bit p, with so many coordinates and components after its first number
 pub record Standing (m : Mesh) (s : List ℕ) (started : Bool) (p coords comps end : ℕ) : Type 0 where
   pub widths : next (format_of m) started (drop p (stream s)) ≡ some (m.first ∷ widths_after m coords comps)
   pub ends : end ≡ p + record_size m coords comps
@@ -53,7 +53,7 @@ pub record Standing (m : Mesh) (s : List ℕ) (started : Bool) (p coords comps e
   pub coords-few : coords ≤ 32
   pub comps-few : comps ≤ 128
 
--- the record that stands at IsBit p, or that the reading ends there
+-- the record that stands at bit p, or that the reading ends there
 abbrev pub FoundAt : Mesh → List ℕ → Bool → ℕ → Found → Type 0
 FoundAt m s started p (Record coords comps end) = Standing m s started p coords comps end.0
 FoundAt m s started p End = next (format_of m) started (drop p (stream s)) ≡ none

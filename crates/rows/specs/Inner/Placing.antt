@@ -79,7 +79,7 @@ shared_rows o side size at = cond (ltb side at) (part nan o side size ++ part na
 abbrev pub row_index : ℕ → ℕ → ℕ → ℕ
 row_index side size at = cond (ltb side at) (at + 2 * size) at
 
--- a vertex has IsFew enough components, the side stands before index at, and an output of room elements has places for the rows from there on
+-- a vertex has few enough components, the side stands before index at, and an output of room elements has places for the rows from there on
 unfoldable pub rows_fit : ℕ → ℕ → ℕ → ℕ → Bool
 rows_fit n side at room =
     leb n most_components

@@ -51,8 +51,8 @@ module _ (k : tie.After-counted) where
   counted : (whole_records (length numbers) n false numbers ≡ true) × (k.counted.given.0.0 ≡ length (patches_of n numbers))
   counted = told-patches _ _ _ (sym k.before.before.count-patches.ensures.0 ∙ k.counted.given.1)
 
-  IsFew : k.counted.given.0.0 ≤ length numbers
-  IsFew = subst (FewPatches (length numbers)) k.counted.given.1 k.before.before.count-patches.ensures.1
+  few : k.counted.given.0.0 ≤ length numbers
+  few = subst (FewPatches (length numbers)) k.counted.given.1 k.before.before.count-patches.ensures.1
 
 mul-needed : tie.Need-overflow-mul-needed
 mul-needed c = search rules
@@ -63,7 +63,7 @@ add-needed c = search rules
 mul-needed-2 : tie.Need-overflow-mul-needed-2
 mul-needed-2 c =
     let k = c.before in
-    omega (arith, few_places k.counted.given.0.0 (32 + 4 * n k) (omega (arith, IsFew k)) (omega arith))
+    omega (arith, few_places k.counted.given.0.0 (32 + 4 * n k) (omega (arith, few k)) (omega arith))
 
 returns-4 : tie.Need-returns-4
 unfolding coons_to_tensor_raw

@@ -34,7 +34,7 @@ pub record InList (v : Vertices) (vs : List Float) : Type 0 where
   pub short : length vs ≤ most_numbers
 
 pub record VerticesThere (v : Vertices) (s : List ℕ) (vs : List Float) : Type 0 where
-  pub IsFew : v.layout.n ≤ most_components
+  pub few : v.layout.n ≤ most_components
   pub sized : v.size ≡ v.layout.flag + (2 * v.layout.coord + v.layout.n * v.layout.comp)
   pub in_bits : v.layout.listed ≡ false → InBits v s
   pub in_list : v.layout.listed ≡ true → InList v vs

@@ -35,7 +35,7 @@ put-run-requires c κs =
     let a = s.args in
     let p = c.before.before.before.put.ensures in (
       (omega (arith, (fit s).there), s.requires.0.0.coord-few, (fit s).coords_fit),
-      (p.IsFew, omega (arith, s.requires.1.1, put_place p, put-length p, length-bits a.mesh.first (get_or a.numbers.now a.i 0))),
+      (p.few, omega (arith, s.requires.1.1, put_place p, put-length p, length-bits a.mesh.first (get_or a.numbers.now a.i 0))),
     )
 
 add-put-run : tie.Need-overflow-add-put-run
@@ -49,7 +49,7 @@ put-run-requires-2 c κs =
     let q = c.before.before.before.put-run.ensures in (
       (omega (arith, (fit s).there), s.requires.0.0.comp-few, (fit s).comps_fit),
       (
-        q.IsFew,
+        q.few,
         omega (
           arith,
           s.requires.1.1,

@@ -40,7 +40,7 @@ put-requires c κs =
     let t = c.before.before.loop-test.true in (
       run_fits-at a.w a.numbers.now a.first a.count l.k s.requires.0.0 t s.requires.0.2,
       s.requires.0.1,
-      p.IsFew,
+      p.few,
       omega (arith, s.requires.1.1, put_place p, put-length p, length-run_bits a.w a.numbers.now a.first l.k (omega arith), mul-le-mul_right a.w t),
     )
 

@@ -80,7 +80,7 @@ put-record-requires c κs =
     let p = l.invariant.1.2 in
     let f = fit k in (
       (k.before.before.before.before.before.before.before.before.requires.0, f.0),
-      (p.IsFew, omega (arith, f.1, put_place p, put-length p, length_record a.mesh (coords k) (comps k) a.numbers.now l.i (there k))),
+      (p.few, omega (arith, f.1, put_place p, put-length p, length_record a.mesh (coords k) (comps k) a.numbers.now l.i (there k))),
     )
 
 add-i : tie.Need-overflow-add-i invariant-loop decreases-loop
@@ -116,7 +116,7 @@ accepted c =
 flush-requires : tie.Need-flush-requires invariant-loop decreases-loop
 flush-requires c κs =
     let p = c.before.before.loop.invariant.1.2 in
-    (p.IsFew, omega (arith, put_place p, put-length p, room_is _ _ (accepted c.before) (length c.before.before.before.before.before.args.out.now) c.before.before.before.before.before.requires.1))
+    (p.few, omega (arith, put_place p, put-length p, room_is _ _ (accepted c.before) (length c.before.before.before.before.before.args.out.now) c.before.before.before.before.before.requires.1))
 
 same-length-2 : tie.Need-same-length-2 invariant-loop decreases-loop
 same-length-2 c = c.before.before.flush.auto.1.0 ∙ put-length c.before.before.before.before.before.loop.invariant.1.2

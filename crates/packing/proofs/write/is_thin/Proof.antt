@@ -7,11 +7,11 @@ use borrow.Author.Rules.{rules}
 use Rattle.packing.proofs.write.is_thin.Statement.{statement}
 use Rattle.packing.proofs.write.is_thin.Tie as tie
 
-IsFew : (s : tie.Start) → s.args.mesh.n * s.args.mesh.comp ≤ 32 * s.args.mesh.n
-IsFew s = times-few s.args.mesh.n s.args.mesh.comp s.requires.comp-few
+few : (s : tie.Start) → s.args.mesh.n * s.args.mesh.comp ≤ 32 * s.args.mesh.n
+few s = times-few s.args.mesh.n s.args.mesh.comp s.requires.comp-few
 
 mul-comps : tie.Need-overflow-mul-comps
-mul-comps c = omega (arith, IsFew c.before)
+mul-comps c = omega (arith, few c.before)
 
 enum_told : tie.Need-enum-told
 enum_told c = search rules
@@ -20,19 +20,19 @@ mul-result : tie.Need-overflow-mul-result
 mul-result c = search rules
 
 add-result : tie.Need-overflow-add-result
-add-result c = omega (arith, IsFew c.before.before.before.before)
+add-result c = omega (arith, few c.before.before.before.before)
 
 add-result-2 : tie.Need-overflow-add-result-2
-add-result-2 c = omega (arith, IsFew c.before.before.before.before.before)
+add-result-2 c = omega (arith, few c.before.before.before.before.before)
 
 enum-told-2 : tie.Need-enum-told-2
 enum-told-2 c = search rules
 
 add-result-3 : tie.Need-overflow-add-result-3
-add-result-3 c = omega (arith, IsFew c.before.before.before.before)
+add-result-3 c = omega (arith, few c.before.before.before.before)
 
 add-result-4 : tie.Need-overflow-add-result-4
-add-result-4 c = omega (arith, IsFew c.before.before.before.before.before)
+add-result-4 c = omega (arith, few c.before.before.before.before.before)
 
 enum-told-3 : tie.Need-enum-told-3
 enum-told-3 c = search rules

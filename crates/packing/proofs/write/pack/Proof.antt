@@ -37,14 +37,14 @@ module _ (k : tie.After-known-told) where
   bits : (b : List ℕ) × (packed (format_of s.args.mesh) false [] s.args.numbers.now ≡ some b) × (length b ≡ k.before.decreases.given.0.0)
   bits = measured_bits _ k.before.decreases.given.0.0 (sym k.before.decreases.given.1 ∙ k.before.before.before.measure.ensures)
 
-  IsFew : length bits.0 ≤ 32 * length s.args.numbers.now
-  IsFew =
+  few : length bits.0 ≤ 32 * length s.args.numbers.now
+  few =
       let m = s.args.mesh in
       let r = s.pre.0 in
-      (accepted_bits m.kind m.first m.coord m.comp m.n s.args.numbers.now bits.0 r.first-few r.coord-few r.comp-few bits.1).IsFew
+      (accepted_bits m.kind m.first m.coord m.comp m.n s.args.numbers.now bits.0 r.first-few r.coord-few r.comp-few bits.1).few
 
 add-needed : tie.Need-overflow-add-needed
-add-needed c = omega (arith, (bits c).2, IsFew c)
+add-needed c = omega (arith, (bits c).2, few c)
 
 returns-2 : tie.Need-returns-2
 returns-2 c =

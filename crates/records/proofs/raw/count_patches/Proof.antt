@@ -33,21 +33,21 @@ add-count c =
     let i = c.before.before.before.before in
     let r = i.before.before.requires in
     let st = rw c.before.coords.given.1 at c.before.before.before.find-record.ensures in
-    omega (arith, st.coords-few, st.comps-few, i.loop.invariant.IsFew, i.loop.invariant.within, r.1)
+    omega (arith, st.coords-few, st.comps-few, i.loop.invariant.few, i.loop.invariant.within, r.1)
 
 add-count-2 : tie.Need-overflow-add-count-2 invariant-loop decreases-loop
 add-count-2 c =
     let i = c.before.before.before.before in
     let r = i.before.before.requires in
     let st = rw c.before.coords.given.1 at c.before.before.before.find-record.ensures in
-    omega (arith, st.coords-few, st.comps-few, i.loop.invariant.IsFew, i.loop.invariant.within, r.1)
+    omega (arith, st.coords-few, st.comps-few, i.loop.invariant.few, i.loop.invariant.within, r.1)
 
 add-count-3 : tie.Need-overflow-add-count-3 invariant-loop decreases-loop
 add-count-3 c =
     let i = c.before.before.before.before in
     let r = i.before.before.requires in
     let st = rw c.before.coords.given.1 at c.before.before.before.find-record.ensures in
-    omega (arith, st.coords-few, st.comps-few, i.loop.invariant.IsFew, i.loop.invariant.within, r.1)
+    omega (arith, st.coords-few, st.comps-few, i.loop.invariant.few, i.loop.invariant.within, r.1)
 
 loop-less : tie.Need-loop-smaller invariant-loop decreases-loop
 loop-less c =

@@ -26,7 +26,7 @@ returns c =
 read-components-requires : tie.Need-read-components-requires
 read-components-requires c κs =
     let f = c.before.before.before.before.before.pre.0.in_bits c.before.if1.left in
-    let IsFew = c.before.before.before.before.before.pre.0.n-few in
+    let few = c.before.before.before.before.before.pre.0.n-few in
     search rules
 
 same-length-2 : tie.Need-same-length-2

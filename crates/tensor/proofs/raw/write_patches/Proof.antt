@@ -24,7 +24,7 @@ take-patch-requires c κs =
     let a = c.before.before.before.requires in
     let p = c.before.loop.invariant.2 in
     let r = here p a.2 c.loop-test.true in
-    (a.0, a.1, r.follows.IsFew, r.fits, has_side p a.2 c.loop-test.true)
+    (a.0, a.1, r.follows.few, r.fits, has_side p a.2 c.loop-test.true)
 
 write-patch-requires : tie.Need-write-patch-requires invariant-loop decreases-loop
 write-patch-requires c κs =

@@ -25,13 +25,13 @@ sub-if2 c = search rules
 
 returns : tie.Need-returns invariant-loop decreases-loop
 unfolding triangles_in
-returns c = let w = c.before.before.before.before.loop.invariant in (counting_cut _ _ w (omega arith) (omega arith) (sym c.before.before.flag_at.ensures ∙ c.before.if1.true), omega (arith, w.IsFew, w.inside))
+returns c = let w = c.before.before.before.before.loop.invariant in (counting_cut _ _ w (omega arith) (omega arith) (sym c.before.before.flag_at.ensures ∙ c.before.if1.true), omega (arith, w.few, w.inside))
 
 add-count : tie.Need-overflow-add-count invariant-loop decreases-loop
-add-count c = let w = c.before.before.before.before.loop.invariant in omega (arith, w.IsFew, w.inside)
+add-count c = let w = c.before.before.before.before.loop.invariant in omega (arith, w.few, w.inside)
 
 add-i : tie.Need-overflow-add-i invariant-loop decreases-loop
-add-i c = let w = c.before.before.before.before.loop.invariant in omega (arith, w.IsFew, w.inside)
+add-i c = let w = c.before.before.before.before.loop.invariant in omega (arith, w.few, w.inside)
 
 loop-less : tie.Need-loop-smaller invariant-loop decreases-loop
 loop-less c = search rules
@@ -40,7 +40,7 @@ loop-again : tie.Need-loop-preserved invariant-loop decreases-loop
 loop-again c = counting_first _ _ c.before.before.before.before.loop.invariant (omega arith) (sym c.before.before.flag_at.ensures ∙ c.before.if1.true)
 
 add-i-2 : tie.Need-overflow-add-i-2 invariant-loop decreases-loop
-add-i-2 c = let w = c.before.before.before.before.loop.invariant in omega (arith, w.IsFew, w.inside)
+add-i-2 c = let w = c.before.before.before.before.loop.invariant in omega (arith, w.few, w.inside)
 
 loop-less-2 : tie.Need-loop-smaller-2 invariant-loop decreases-loop
 loop-less-2 c = search rules
@@ -49,10 +49,10 @@ loop-again-2 : tie.Need-loop-preserved-2 invariant-loop decreases-loop
 loop-again-2 c = counting_alone _ _ c.before.before.before.before.loop.invariant (omega arith) (omega (arith, sym c.before.before.flag_at.ensures)) c.if3.true
 
 add-count-2 : tie.Need-overflow-add-count-2 invariant-loop decreases-loop
-add-count-2 c = let w = c.before.before.before.before.before.loop.invariant in omega (arith, w.IsFew, w.inside)
+add-count-2 c = let w = c.before.before.before.before.before.loop.invariant in omega (arith, w.few, w.inside)
 
 add-i-3 : tie.Need-overflow-add-i-3 invariant-loop decreases-loop
-add-i-3 c = let w = c.before.before.before.before.before.loop.invariant in omega (arith, w.IsFew, w.inside)
+add-i-3 c = let w = c.before.before.before.before.before.loop.invariant in omega (arith, w.few, w.inside)
 
 loop-less-3 : tie.Need-loop-smaller-3 invariant-loop decreases-loop
 loop-less-3 c = search rules
@@ -61,7 +61,7 @@ loop-again-3 : tie.Need-loop-preserved-3 invariant-loop decreases-loop
 loop-again-3 c = let e = sym c.before.before.before.flag_at.ensures in counting_joined _ _ c.before.before.before.before.before.loop.invariant (omega arith) (omega arith) (omega arith) c.before.if3.false
 
 add-i-4 : tie.Need-overflow-add-i-4 invariant-loop decreases-loop
-add-i-4 c = let w = c.before.before.before.before.before.loop.invariant in omega (arith, w.IsFew, w.inside)
+add-i-4 c = let w = c.before.before.before.before.before.loop.invariant in omega (arith, w.few, w.inside)
 
 loop-less-4 : tie.Need-loop-smaller-4 invariant-loop decreases-loop
 loop-less-4 c = search rules
@@ -71,7 +71,7 @@ loop-again-4 c = let e = sym c.before.before.before.flag_at.ensures in counting_
 
 returns-2 : tie.Need-returns-2 invariant-loop decreases-loop
 unfolding triangles_in
-returns-2 c = let w = c.before.loop.invariant in (counting_end _ _ w (omega arith), omega (arith, w.IsFew, w.inside))
+returns-2 c = let w = c.before.loop.invariant in (counting_end _ _ w (omega arith), omega (arith, w.few, w.inside))
 
 pub count-triangles-spec : {M : Type 1} → statement M
 count-triangles-spec =

@@ -27,10 +27,10 @@ module _ (k : tie.After-struct-known) where
   counted = k.before.count-triangles.ensures.0 ∙ same_count start.args.last_three_lem _ _ _
 
 add-needed : tie.Need-overflow-add-needed
-add-needed c = omega (arith, (start c).requires.0.IsFew)
+add-needed c = omega (arith, (start c).requires.0.few)
 
 mul-needed : tie.Need-overflow-mul-needed
-mul-needed c = omega (arith, (start c).requires.0.IsFew)
+mul-needed c = omega (arith, (start c).requires.0.few)
 
 mul-needed-2 : tie.Need-overflow-mul-needed-2
 mul-needed-2 c = omega (arith, numbers_small (start c).requires.0 c.before.count-triangles.result (omega (arith, c.before.count-triangles.ensures.1)))

@@ -32,7 +32,7 @@ ready c =
     c.before.before.before.before.before.before.before.before.before.before.requires.2
 
 add-size : tie.Need-overflow-add-size invariant-loop decreases-loop
-add-size c = omega (arith, c.before.before.before.before.requires.0.IsFew)
+add-size c = omega (arith, c.before.before.before.before.requires.0.few)
 
 loop-holds : tie.Need-loop-init invariant-loop decreases-loop
 loop-holds c = writing_start _ _ _ _ _ _ _
@@ -81,10 +81,10 @@ loop-again-2 c = let w = c.before.before.before.before.loop.invariant in
     dropped_alone _ _ _ _ _ _ w (omega arith) (omega arith) c.if3.true (omega arith)
 
 side-row-requires : tie.Need-side-row-requires invariant-loop decreases-loop
-side-row-requires c κs = let f = c.before.before.before.before.before.before.before.before.before.before.requires.0.IsFew in let r = ready c in (omega arith, omega (arith, r.enough))
+side-row-requires c κs = let f = c.before.before.before.before.before.before.before.before.before.before.requires.0.few in let r = ready c in (omega arith, omega (arith, r.enough))
 
 kept-row-requires : tie.Need-kept-row-requires invariant-loop decreases-loop
-kept-row-requires c κs = let f = c.before.before.before.before.before.before.before.before.before.before.before.requires.0.IsFew in let r = ready c.before in (omega arith, omega (arith, r.enough))
+kept-row-requires c κs = let f = c.before.before.before.before.before.before.before.before.before.before.before.requires.0.few in let r = ready c.before in (omega arith, omega (arith, r.enough))
 
 write-joined-requires : tie.Need-write-joined-requires invariant-loop decreases-loop
 write-joined-requires c κs = let s = c.before.before.before.before.before.before.before.before.before.before.before.before.before in

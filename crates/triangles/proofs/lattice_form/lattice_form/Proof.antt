@@ -49,8 +49,8 @@ module _ (k : tie.Else1) where
   inside : rows * row ≤ total
   inside = rows_inside total row rows k.before.lattice-rows.ensures two
 
-  IsFew : 2 * (rows - 1) * (row - 1) ≤ 2 * total
-  IsFew = few-cells total row rows k.before.lattice-rows.ensures two
+  few : 2 * (rows - 1) * (row - 1) ≤ 2 * total
+  few = few-cells total row rows k.before.lattice-rows.ensures two
 
   counted : 2 * (rows - 1) * (row - 1) ≡ length (lattice total row)
   counted = cell_count total row rows k.before.lattice-rows.ensures two
@@ -65,18 +65,18 @@ sub-count-2 : tie.Need-overflow-sub-count-2
 sub-count-2 c = omega (arith, long c)
 
 mul-count-2 : tie.Need-overflow-mul-count-2
-mul-count-2 c = omega (arith, IsFew c, total_small (start c).requires)
+mul-count-2 c = omega (arith, few c, total_small (start c).requires)
 
 add-needed : tie.Need-overflow-add-needed
-add-needed c = omega (arith, (start c.before).pre.IsFew)
+add-needed c = omega (arith, (start c.before).pre.few)
 
 mul-needed : tie.Need-overflow-mul-needed
-mul-needed c = omega (arith, (start c.before).pre.IsFew)
+mul-needed c = omega (arith, (start c.before).pre.few)
 
 mul-needed-2 : tie.Need-overflow-mul-needed-2
 mul-needed-2 c =
     let k = c.before in
-    omega (arith, numbers_small (start k).requires (2 * (rows k - 1) * (row k - 1)) (IsFew k))
+    omega (arith, numbers_small (start k).requires (2 * (rows k - 1) * (row k - 1)) (few k))
 
 returns-2 : tie.Need-returns-2
 returns-2 c =

@@ -33,7 +33,7 @@ copy-row-requires c κs = let s = c.before.before.before.before.before.before.be
     let w₁ = c.before.before.before.before.before.before.before.before.before.before.before.write-row.ensures in
     let w₂ = c.before.before.before.before.before.before.before.write-row2.ensures in
     let w₃ = c.before.before.before.write-row3.ensures in
-    (s.requires.0.IsFew, omega (arith, w₂.0, w₃.0), omega (arith, s.requires.2, w₁.0, w₂.0, w₃.0, written_length w₁.1, written_length w₂.1, written_length w₃.1))
+    (s.requires.0.few, omega (arith, w₂.0, w₃.0), omega (arith, s.requires.2, w₁.0, w₂.0, w₃.0, written_length w₁.1, written_length w₂.1, written_length w₃.1))
 
 add-write-vertex : tie.Need-overflow-add-write-vertex
 add-write-vertex c = omega (arith, c.before.before.before.before.before.before.before.before.before.before.before.before.before.before.before.before.before.before.before.before.requires.1, total_small c.before.before.before.before.before.before.before.before.before.before.before.before.before.before.before.before.before.before.before.before.requires.0)
@@ -53,7 +53,7 @@ copy-row-requires-2 c κs = let s = c.before.before.before.before.before.before.
     let w₃ = c.before.before.before.before.before.before.before.before.before.before.before.write-row3.ensures in
     let w₄ = c.before.before.before.before.before.before.before.copy-row.ensures in
     let w₅ = c.before.before.before.write-vertex.ensures in
-    (s.requires.0.IsFew, omega (arith, w₃.0, w₄.0, w₅.0), omega (arith, s.requires.2, w₁.0, w₂.0, w₃.0, w₄.0, w₅.0, written_length w₁.1, written_length w₂.1, written_length w₃.1, written_length w₄.1, written_length w₅.1))
+    (s.requires.0.few, omega (arith, w₃.0, w₄.0, w₅.0), omega (arith, s.requires.2, w₁.0, w₂.0, w₃.0, w₄.0, w₅.0, written_length w₁.1, written_length w₂.1, written_length w₃.1, written_length w₄.1, written_length w₅.1))
 
 same_length : tie.Need-same-length
 same_length c = let s = c.before.before.before.before.before.before.before.before.before.before.before.before.before.before.before.before.before.before.before.before.before.before.before.before.before.before.before.before in

@@ -23,10 +23,10 @@ abbrev decreases-loop : tie.decreases-loop
 decreases-loop «data» values vertices ranges row first out₀ at size nowhere back p₀ c₀ out p c = row - c
 
 add-size : tie.Need-overflow-add-size invariant-loop decreases-loop
-add-size c = omega (arith, c.before.before.before.before.requires.0.IsFew)
+add-size c = omega (arith, c.before.before.before.before.requires.0.few)
 
 mul-back : tie.Need-overflow-mul-back invariant-loop decreases-loop
-mul-back c = omega (arith, c.before.before.before.before.requires.0.IsFew)
+mul-back c = omega (arith, c.before.before.before.before.requires.0.few)
 
 sub_back : tie.Need-overflow-sub-back invariant-loop decreases-loop
 sub_back c = omega (arith, c.before.before.before.before.requires.1)
@@ -35,7 +35,7 @@ mul-back-2 : tie.Need-overflow-mul-back-2 invariant-loop decreases-loop
 mul-back-2 c = omega (arith, c.before.before.before.before.requires.3)
 
 mul-back-3 : tie.Need-overflow-mul-back-3 invariant-loop decreases-loop
-mul-back-3 c = omega (arith, c.before.before.before.before.requires.0.IsFew)
+mul-back-3 c = omega (arith, c.before.before.before.before.requires.0.few)
 
 sub-back-2 : tie.Need-overflow-sub-back-2 invariant-loop decreases-loop
 sub-back-2 c = omega (arith, band_enough (c.before.before.before.before.args.vertices.layout.n + 10) c.before.before.before.before.requires.1)
@@ -50,7 +50,7 @@ add-i : tie.Need-overflow-add-i invariant-loop decreases-loop
 add-i c = let s = c.before.before.before.before.before.before in omega (arith, s.requires.2, c.before.loop.invariant.1, total_small s.requires.0)
 
 mul-back-from : tie.Need-overflow-mul-back-from invariant-loop decreases-loop
-mul-back-from c = omega (arith, c.before.before.before.before.before.before.requires.0.IsFew)
+mul-back-from c = omega (arith, c.before.before.before.before.before.before.requires.0.few)
 
 back-from-requires : tie.Need-back-from-requires invariant-loop decreases-loop
 back-from-requires c κs = λ e. omega (arith, cells_enough _ _ _ c.before.loop.invariant.0 (ltb-true _ _ e))
@@ -59,7 +59,7 @@ back-from-requires-2 : tie.Need-back-from-requires-2 invariant-loop decreases-lo
 back-from-requires-2 c κs = λ e. let s = c.before.before.before.before.before.before.before in omega (arith, cells_place _ _ _ c.before.before.loop.invariant.0, (s.requires.4 (ltb-true _ _ e)).before)
 
 mul-back-from-2 : tie.Need-overflow-mul-back-from-2 invariant-loop decreases-loop
-mul-back-from-2 c = omega (arith, c.before.before.before.before.before.before.before.before.requires.0.IsFew)
+mul-back-from-2 c = omega (arith, c.before.before.before.before.before.before.before.before.requires.0.few)
 
 back-from-requires-3 : tie.Need-back-from-requires-3 invariant-loop decreases-loop
 back-from-requires-3 c κs = λ e. omega (arith, cells_enough _ _ _ c.before.before.before.loop.invariant.0 (ltb-true _ _ e))

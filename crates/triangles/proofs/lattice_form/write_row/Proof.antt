@@ -4,7 +4,7 @@ use Rattle.triangles.proofs.lattice_form.write_row.Statement.{statement}
 use Rattle.triangles.proofs.lattice_form.write_row.Tie as tie
 
 copy-row-requires : tie.Need-copy-row-requires
-copy-row-requires c κs = let a = c.before.before.before.before.before in let h = a.requires.3 c.before.if1.true in (a.requires.0.IsFew, h.before, a.requires.2)
+copy-row-requires c κs = let a = c.before.before.before.before.before in let h = a.requires.3 c.before.if1.true in (a.requires.0.few, h.before, a.requires.2)
 
 same_length : tie.Need-same-length
 same_length c = search rules
