@@ -1,0 +1,16 @@
+-- `bits::read` meets its contract: eight bytes at the place hold all bits, and a window of them is the number.
+-- Assumes nothing.
+use Prim.Native.Nat.{◌+◌, ◌*◌, ◌%◌}
+use mathlib.Core.Path.{◌≡◌}
+use native.Mathlib.Omega.{arith}
+use Rattle.bits.proofs.Gathering.{gathers_window}
+use Rattle.bits.proofs.Answers.{answer_number}
+use Rattle.bits.proofs.read.Goals as goal
+
+pub returns-then-data-le2305843009213693951 : goal.returns-then-data-le2305843009213693951
+returns-then-data-le2305843009213693951 c =
+    let b = c in
+    let a = b.args in
+    let e : 8 * b.byte_of-place.result.0 + a.at.0 % 8 ≡ a.at.0 = omega arith in
+    rw (c.window-number.ensures, ← gathers_window (a.at.0 % 8) a.n c.eight_bytes.ensures (omega arith) (omega arith), e)
+    (answer_number a.data.now a.at.0 a.n (omega arith) (omega arith) (omega arith) (omega arith))
