@@ -24,6 +24,7 @@ no h = subst T h tt
 
 or_l : (a b : Bool) → T a → T (a || b)
 or_l true b h = tt
+or_l false b h = elim h [ ]
 
 or_r : (a b : Bool) → T b → T (a || b)
 or_r true b h = tt
@@ -123,6 +124,7 @@ not_negative : (s : Bool) (m : ℕ) (e : _) (d : ℕ) → T (within (fin s m e))
 unfolding is_nan
 not_negative true m e d h t =
     ap (λ (x : ℕ). x * d) (zero_if_negative m e (and_l (le float0 (fin true m e)) (le (fin true m e) float1) h)) ∙ zero-mul d
+not_negative false m e d h t = elim t [ ]
 
 no_infinity : (s : Bool) → T (within (inf s)) → ⊥
 unfolding is_nan le

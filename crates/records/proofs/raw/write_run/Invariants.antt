@@ -1,0 +1,13 @@
+-- `records::raw::write_run` meets its contract: each turn writes the next number of the run, whose bits are all there. Assumes nothing.
+use Prim.Native.Nat.{◌-◌}
+use mathlib.Core.Path.{sym, ◌∙◌}
+use lib.ListN.{replicate, get_or-replicate}
+use Rattle.records.proofs.Readings.{sum-replicate}
+use Rattle.records.proofs.Runs.{Upto, upto_start, upto_end, upto_goes_on, upto_step, run_there}
+use Rattle.records.proofs.raw.write_run.Given as goal
+
+abbrev pub invariant-loop-k : goal.invariant-loop-k
+invariant-loop-k l = Upto l.data l.initial.at.0 (replicate l.count l.width) l.count l.p l.out l.initial.out l.k l.at.0
+
+abbrev pub decreases-loop-k : goal.decreases-loop-k
+decreases-loop-k l = l.count - l.k

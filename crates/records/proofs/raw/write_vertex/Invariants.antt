@@ -1,0 +1,16 @@
+-- `records::raw::write_vertex` meets its contract: each turn writes the vertex's next number, whose bits are all there. Assumes nothing.
+use Prim.Native.Nat.{◌-◌}
+use mathlib.Core.Path.{sym, ◌∙◌}
+use mathlib.Core.List.{◌∷◌}
+use native.Mathlib.Omega.{arith}
+use Rattle.records.specs.Format.{sum}
+use Rattle.records.specs.Inner.Walk.{widths_after}
+use Rattle.records.proofs.Finding.{sum-after}
+use Rattle.records.proofs.Runs.{Upto, upto_start, upto_end, upto_goes_on, upto_step, record_there}
+use Rattle.records.proofs.raw.write_vertex.Given as goal
+
+abbrev pub invariant-loop-k : goal.invariant-loop-k
+invariant-loop-k l = Upto l.data l.initial.at.0 (l.mesh.first ∷ widths_after l.mesh l.coords l.mesh.n) l.initial.out l.p l.out l.size l.k l.at.0
+
+abbrev pub decreases-loop-k : goal.decreases-loop-k
+decreases-loop-k l = l.initial.out - l.k

@@ -1,0 +1,14 @@
+-- `records::raw::write_vertices` meets its contract: while numbers are left the next vertex is whole, and a turn writes it. Assumes nothing.
+use Prim.Native.Nat.{◌-◌}
+use mathlib.Core.Path.{sym}
+use mathlib.Core.Bool.{Bool, true, false}
+use native.Mathlib.Omega.{arith}
+use Rattle.records.proofs.Shapes.{small}
+use Rattle.records.proofs.Filling.{Filling, fill_start, fill_end, vertex_turn, turn_done}
+use Rattle.records.proofs.raw.write_vertices.Given as goal
+
+abbrev pub invariant-loop-p : goal.invariant-loop-p
+invariant-loop-p l = (started : Bool) × Filling l.mesh l.data l.size l.out l.count l.p l.at.0 started
+
+abbrev pub decreases-loop-p : goal.decreases-loop-p
+decreases-loop-p l = l.count - l.p
