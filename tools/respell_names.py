@@ -59,13 +59,23 @@ def spelled(name, functions):
 
 
 def cut(parts, functions):
-    """The parts as names of functions, the longest first, or nothing."""
+    """The parts as names of functions, the longest first, or nothing. A single word that is not of the library counts as a word of prose at the front."""
+    for n in range(len(parts), 0, -1):
+        word = "_".join(parts[:n])
+        if word in functions and (word in STD or "_" in word):
+            rest = rest_of(parts[n:], functions)
+            if rest is not None:
+                return [word] + rest
+    return None
+
+
+def rest_of(parts, functions):
     if not parts:
         return []
     for n in range(len(parts), 0, -1):
         word = "_".join(parts[:n])
-        if word in functions and n < len(parts) or n == len(parts) and word in functions:
-            rest = cut(parts[n:], functions)
+        if word in functions:
+            rest = rest_of(parts[n:], functions)
             if rest is not None:
                 return [word] + rest
     return None

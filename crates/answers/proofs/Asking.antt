@@ -47,9 +47,9 @@ module _ {A : Type 0} where
         short = λ room h. e room ∙ (simp (lt-ltb _ _ h));
       }
 
-  fitted-tells : (count : ℕ) (xs : List A) (room : ℕ) → (tells (fitted count xs room)).refused ≡ 4 → (tells (fitted count xs room)).count ≡ length xs
+  fitted_tells : (count : ℕ) (xs : List A) (room : ℕ) → (tells (fitted count xs room)).refused ≡ 4 → (tells (fitted count xs room)).count ≡ length xs
   unfolding fitted
-  fitted-tells count xs room = go (ltb room (length xs))
+  fitted_tells count xs room = go (ltb room (length xs))
     where
       go : (t : Bool) → (tells (refuse_if t (Room (length xs)) (wrote count xs))).refused ≡ 4
           → (tells (refuse_if t (Room (length xs)) (wrote count xs))).count ≡ length xs
@@ -81,7 +81,7 @@ module _ {A : Type 0} where
         go (whole count xs e) =
             let u : t ≡ tells (fitted count xs (length entry)) = d.answered ∙ ap tells (e (length entry)) in
             let told : t.count ≡ length xs =
-            ap (λ (k : Told). k.count) u ∙ fitted-tells count xs (length entry) (sym (ap (λ (k : Told). k.refused) u) ∙ z) in
+            ap (λ (k : Told). k.count) u ∙ fitted_tells count xs (length entry) (sym (ap (λ (k : Told). k.refused) u) ∙ z) in
             subst (Needs o) (sym told) (fitted_needs count xs e)
 
     -- lent exactly that, the next call isn't refused, and writes exactly so many places: all that were lent

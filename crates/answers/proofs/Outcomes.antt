@@ -41,5 +41,5 @@ module _ {A : Type 0} where
   all_written e w = simp (le-ltb _ _ (rw zero-add at w.room), e) (record { answered = refl; held = written_front w })
 
   -- numbers that are an answer's tell what it tells
-  pub tells-same : {o : Outcome A} {entry exit : List A} {t u : Told} → t ≡ u → Tells o entry u exit → Tells o entry t exit
-  tells-same e d = record { answered = e ∙ d.answered; held = d.held }
+  pub tells_same : {o : Outcome A} {entry exit : List A} {t u : Told} → t ≡ u → Tells o entry u exit → Tells o entry t exit
+  tells_same e d = record { answered = e ∙ d.answered; held = d.held }

@@ -12,8 +12,8 @@ use lib.Bits.{bit_or, or_shifted}
 use lib.Dec.{lit<}
 use Rattle.bits.specs.Bits.{bits_of, number, stream, field_at}
 use Rattle.bits.specs.Inner.Gathering.{Gathers}
-use Rattle.bits.proofs.Digits.{number-bits, take-bits, drop_bits, bits_join}
-use Rattle.bits.proofs.Streams.{stream-append, bytes_window, field_before}
+use Rattle.bits.proofs.Digits.{number_bits, take-bits, drop_bits, bits_join}
+use Rattle.bits.proofs.Streams.{stream_append, bytes_window, field_before}
 
 -- no byte
 pub gathers_none : (s : List ℕ) (from : ℕ) → Gathers s from 0 0
@@ -32,7 +32,7 @@ gathers_join {s} {from} a b {x} {y} g h =
     record {
       small = rw (mul-add 8 a b, pow-add 2 (8 * a) (8 * b)) (digits_lt g.small h.small);
       same =
-          rw (mul-add 8 a b, bits_join (8 * a) (8 * b) x y h.small, take-add a b (drop from s), stream-append, drop-drop, g.same, h.same) refl;
+          rw (mul-add 8 a b, bits_join (8 * a) (8 * b) x y h.small, take-add a b (drop from s), stream_append, drop-drop, g.same, h.same) refl;
     }
 
 -- how the code puts a number of k bits below another: a shift and an or, at a width that holds both
@@ -85,7 +85,7 @@ gathers_window {s} {from} {count} {r} off n g fits inside =
     ∙ ap (λ (l : List ℕ). take n (drop off l)) (g.same ∙ ap (λ (k : ℕ). bits_of k r) w)
     ∙ ap (take n) (drop_bits off (n + rest) r)
     ∙ take-bits n rest r)
-    ∙ number-bits n (r / 2 ^ rest)
+    ∙ number_bits n (r / 2 ^ rest)
 
 -- one of the first eight bytes, or a zero in its place
 pub gathers_padded : (s : List ℕ) (k : ℕ) → k < 8 → get_or s k 0 < 256 → Gathers (s ++ replicate 8 0) k 1 (get_or s k 0)

@@ -16,11 +16,11 @@ unfolding stream
 length-stream [] = refl
 length-stream (b ∷ s) = omega (arith, length-append (bits_of 8 b) (stream s), length-bits 8 b, length-stream s)
 
-pub stream-append : (s t : List ℕ) → stream (s ++ t) ≡ stream s ++ stream t
+pub stream_append : (s t : List ℕ) → stream (s ++ t) ≡ stream s ++ stream t
 unfolding stream
-stream-append [] t = refl
-stream-append (b ∷ s) t =
-    ap (λ (r : List ℕ). bits_of 8 b ++ r) (stream-append s t) ∙ sym (append_assoc (bits_of 8 b) (stream s) (stream t))
+stream_append [] t = refl
+stream_append (b ∷ s) t =
+    ap (λ (r : List ℕ). bits_of 8 b ++ r) (stream_append s t) ∙ sym (append_assoc (bits_of 8 b) (stream s) (stream t))
 
 pub stream_below : (s : List ℕ) → AllBelow 2 (stream s)
 unfolding stream
@@ -40,7 +40,7 @@ stream_before : (s z : List ℕ) (off n : ℕ) → off + n ≤ 8 * length s → 
 stream_before s z off n inside =
     let h₁ : off ≤ length (stream s) = rw length-stream (omega arith) in
     let h₂ : n ≤ length (drop off (stream s)) = simp (length-drop, length-stream) (omega arith) in
-    ap (take n) (ap (drop off) (stream-append s z) ∙ drop-append-le off (stream s) (stream z) h₁)
+    ap (take n) (ap (drop off) (stream_append s z) ∙ drop-append-le off (stream s) (stream z) h₁)
     ∙ take-append-le n (drop off (stream s)) (stream z) h₂
 
 -- n bits at an offset into a run of count bytes are those of the whole
@@ -67,9 +67,9 @@ field_below s p w h =
     (number_below (take w (drop p (stream s))) (all_take bit w (drop p (stream s)) (all_drop bit p (stream s) (stream_below s))))
 
 -- a field of the bytes from i on is one of the whole
-pub field-from : (s : List ℕ) (i off w : ℕ) → field_at (take (length s - i) (drop i s)) off w ≡ field_at s (8 * i + off) w
+pub field_from : (s : List ℕ) (i off w : ℕ) → field_at (take (length s - i) (drop i s)) off w ≡ field_at s (8 * i + off) w
 unfolding field_at
-field-from s i off w =
+field_from s i off w =
     ap (λ (l : List ℕ). number (take w (drop off (stream l)))) (take_all (length s - i) (drop i s) (rw length-drop (omega arith)))
     ∙ ap (λ (l : List ℕ). number (take w (drop off l))) (sym (drop-stream i s))
     ∙ ap (λ (l : List ℕ). number (take w l)) (drop-drop off (8 * i) (stream s))

@@ -7,6 +7,6 @@ use lib.Ieee.{Float}
 use Rattle.colour.specs.Colour.{colour_numbers, colour_of, colour_row}
 use Rattle.colour.proofs.Lengths.{length-colour}
 
-pub components-kept : (comps : List Float) → drop 8 (colour_row comps) ≡ comps
+pub components_kept : (comps : List Float) → drop 8 (colour_row comps) ≡ comps
 unfolding colour_row
-components-kept comps = drop_at (colour_numbers (colour_of comps)) comps 8 (length-colour (colour_of comps))
+components_kept comps = drop_at (colour_numbers (colour_of comps)) comps 8 (length-colour (colour_of comps))

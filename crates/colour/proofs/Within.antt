@@ -1,4 +1,4 @@
--- Each of r, g and b is NaN or within 0..1: `colour-within`. Where there are four components none of them is NaN. Assumes nothing.
+-- Each of r, g and b is NaN or within 0..1: `colour_within`. Where there are four components none of them is NaN. Assumes nothing.
 use mathlib.Core.Path.{◌≡◌, refl, sym, ap, ◌∙◌, subst}
 use mathlib.Core.Bool.{Bool, true, false, cond, ◌&&◌, ◌||◌}
 use mathlib.Core.List.{List, [], ◌∷◌}
@@ -174,11 +174,11 @@ clamped_light a b = light_within (clamp_of a) (clamp_of b) (clamp_within a) (cla
 black : T (within float0)
 black = inside→within float0 zero_inside
 
-pub colour-within : (l : List Float) → T (within (colour_of l).r) × T (within (colour_of l).g) × T (within (colour_of l).b)
+pub colour_within : (l : List Float) → T (within (colour_of l).r) × T (within (colour_of l).g) × T (within (colour_of l).b)
 unfolding colour_of
-colour-within [] = (black, black, black)
-colour-within (a ∷ []) = (clamp_within a, clamp_within a, clamp_within a)
-colour-within (a ∷ (b ∷ [])) = (black, black, black)
-colour-within (a ∷ (b ∷ (c ∷ []))) = (clamp_within a, clamp_within b, clamp_within c)
-colour-within (a ∷ (b ∷ (c ∷ (d ∷ [])))) = (clamped_light a d, clamped_light b d, clamped_light c d)
-colour-within (a ∷ (b ∷ (c ∷ (d ∷ (e ∷ l))))) = (clamp_within a, clamp_within b, clamp_within c)
+colour_within [] = (black, black, black)
+colour_within (a ∷ []) = (clamp_within a, clamp_within a, clamp_within a)
+colour_within (a ∷ (b ∷ [])) = (black, black, black)
+colour_within (a ∷ (b ∷ (c ∷ []))) = (clamp_within a, clamp_within b, clamp_within c)
+colour_within (a ∷ (b ∷ (c ∷ (d ∷ [])))) = (clamped_light a d, clamped_light b d, clamped_light c d)
+colour_within (a ∷ (b ∷ (c ∷ (d ∷ (e ∷ l))))) = (clamp_within a, clamp_within b, clamp_within c)

@@ -39,9 +39,9 @@ module _ (s : List ℕ) (at k : ℕ) where
     number_cut h = rw (le-leb _ _ few, lt-leb _ _ h)
 
     -- all bytes are there
-    pub number-there : at + k ≤ length s → big_endian_or0 s at k ≡ big_endian s at k
+    pub number_there : at + k ≤ length s → big_endian_or0 s at k ≡ big_endian s at k
     unfolding big_endian_or0
-    number-there h = rw (le-leb _ _ few, le-leb _ _ h)
+    number_there h = rw (le-leb _ _ few, le-leb _ _ h)
 
   module _ (entry : List Float) where
     pub floats_cut : length s < at + 8 * k → entry ≡ with_floats entry s at k

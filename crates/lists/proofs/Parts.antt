@@ -8,12 +8,12 @@ use lib.ListN.{length, get_or, take, drop, length-append, take-append-drop}
 use lib.Seq.{take_all, length-take-le, take-append-le, take_at, drop_at, take-take, drop-append-add, drop-drop}
 use Rattle.lists.specs.Lists.{joined, part}
 use Rattle.lists.specs.Writing.{put, Written}
-use Rattle.lists.proofs.Pieces.{part-take, length_part, part_middle}
+use Rattle.lists.proofs.Pieces.{part_take, length_part, part_middle}
 use Rattle.lists.proofs.Writing.{written_length, written_take}
 
 module _ {A : Type 0} where
-  pub part-between : (d : A) (l : List A) (from n : ℕ) → from + n ≤ length l → take (from + n - from) (drop from l) ≡ part d l from n
-  part-between d l from n h = rw add-sub_cancel_left (sym (part-take d l from n h))
+  pub part_between : (d : A) (l : List A) (from n : ℕ) → from + n ≤ length l → take (from + n - from) (drop from l) ≡ part d l from n
+  part_between d l from n h = rw add-sub_cancel_left (sym (part_take d l from n h))
 
   pub part_of_two : (d : A) (l : List A) (from : ℕ) → part d l from 2 ≡ get_or l from d ∷ get_or l (from + 1) d ∷ []
   unfolding part joined
@@ -98,5 +98,5 @@ module _ {A : Type 0} where
       let split : drop (at + length xs) l ≡ part d l p k ++ drop (at + length (xs ++ part d l p k)) l =
       ap (λ (i : ℕ). drop i l) (sym a)
       ∙ sym (take-append-drop k (drop p l))
-      ∙ ap₂ (λ (x y : List A). x ++ y) (sym (part-take d l p k h)) (drop-drop k p l ∙ ap (λ (i : ℕ). drop i l) end) in
+      ∙ ap₂ (λ (x y : List A). x ++ y) (sym (part_take d l p k h)) (drop-drop k p l ∙ ap (λ (i : ℕ). drop i l) end) in
       record { held = rw (w.held, split) (simp append_assoc); room = omega arith; after = omega arith }

@@ -12,9 +12,9 @@ use Rattle.lists.specs.Lists.{joined, part, flat}
 
 module _ {A : Type 0} where
   -- one more
-  pub joined-more : (k : ℕ) (f : ℕ → List A) → joined (k + 1) f ≡ joined k f ++ f k
+  pub joined_more : (k : ℕ) (f : ℕ → List A) → joined (k + 1) f ≡ joined k f ++ f k
   unfolding joined
-  joined-more k f = rw add-one
+  joined_more k f = rw add-one
 
   -- where each f i has m elements
   pub length-joined : (k m : ℕ) (f : ℕ → List A) → ((i : ℕ) → length (f i) ≡ m) → length (joined k f) ≡ k * m
@@ -46,15 +46,15 @@ module _ {A : Type 0} where
   length_part d l from k = length_singles _ k
 
   -- a part, where all of it is there
-  pub part-take : (d : A) (l : List A) (from k : ℕ) → from + k ≤ length l → part d l from k ≡ take k (drop from l)
+  pub part_take : (d : A) (l : List A) (from k : ℕ) → from + k ≤ length l → part d l from k ≡ take k (drop from l)
   unfolding part joined
-  part-take d l from zero h = refl
-  part-take d l from (suc k) h =
+  part_take d l from zero h = refl
+  part_take d l from (suc k) h =
       let n : k < length (drop from l) = rw length-drop (omega arith) in
-      rw (part-take d l from k (omega arith), take-suc (drop from l) k d n, get_or-drop)
+      rw (part_take d l from k (omega arith), take-suc (drop from l) k d n, get_or-drop)
 
   pub part_all : (d : A) (l : List A) → part d l 0 (length l) ≡ l
-  part_all d l = part-take d l 0 (length l) (omega arith) ∙ take-length l
+  part_all d l = part_take d l 0 (length l) (omega arith) ∙ take-length l
 
   -- two parts side by side
   pub part_then : (d : A) (l : List A) (from j k : ℕ) → part d l from (j + k) ≡ part d l from j ++ part d l (from + j) k
@@ -65,7 +65,7 @@ module _ {A : Type 0} where
   -- a part that is the middle of three lists
   pub part_middle : (d : A) (xs ys zs : List A) (from k : ℕ) → length xs ≡ from → length ys ≡ k → part d (xs ++ (ys ++ zs)) from k ≡ ys
   part_middle d xs ys zs from k p q =
-      rw (part-take d (xs ++ (ys ++ zs)) from k (simp (length-append) (omega arith)), drop_at xs (ys ++ zs) from p, take_at ys zs k q)
+      rw (part_take d (xs ++ (ys ++ zs)) from k (simp (length-append) (omega arith)), drop_at xs (ys ++ zs) from p, take_at ys zs k q)
 
 module _ {A B : Type 0} (f : A → List B) where
   pub flat_append : (xs ys : List A) → flat f (xs ++ ys) ≡ flat f xs ++ flat f ys
@@ -73,22 +73,22 @@ module _ {A B : Type 0} (f : A → List B) where
   flat_append [] ys = refl
   flat_append (x ∷ xs) ys = rw (append_assoc, flat_append xs ys)
 
-  pub flat-more : (xs : List A) (x : A) → flat f (xs ++ (x ∷ [])) ≡ flat f xs ++ f x
+  pub flat_more : (xs : List A) (x : A) → flat f (xs ++ (x ∷ [])) ≡ flat f xs ++ f x
   unfolding flat
-  flat-more xs x = flat_append xs (x ∷ []) ∙ ap (λ (r : List B). flat f xs ++ r) (append-nil (f x))
+  flat_more xs x = flat_append xs (x ∷ []) ∙ ap (λ (r : List B). flat f xs ++ r) (append-nil (f x))
 
   pub length-flat : (m : ℕ) (xs : List A) → ((x : A) → length (f x) ≡ m) → length (flat f xs) ≡ length xs * m
   unfolding flat
   length-flat m [] h = sym (zero-mul m)
   length-flat m (x ∷ xs) h = rw (length-append, suc-mul, h, length-flat m xs h) (omega arith)
 
-  pub flat-joined : (k : ℕ) (g : ℕ → List A) → flat f (joined k g) ≡ joined k (λ (i : ℕ). flat f (g i))
+  pub flat_joined : (k : ℕ) (g : ℕ → List A) → flat f (joined k g) ≡ joined k (λ (i : ℕ). flat f (g i))
   unfolding joined flat
-  flat-joined zero g = refl
-  flat-joined (suc k) g = rw (flat_append (joined k g) (g k), flat-joined k g)
+  flat_joined zero g = refl
+  flat_joined (suc k) g = rw (flat_append (joined k g) (g k), flat_joined k g)
 
 module _ {A B : Type 0} where
-  pub flat-same : (f g : A → List B) (xs : List A) → ((x : A) → f x ≡ g x) → flat f xs ≡ flat g xs
+  pub flat_same : (f g : A → List B) (xs : List A) → ((x : A) → f x ≡ g x) → flat f xs ≡ flat g xs
   unfolding flat
-  flat-same f g [] h = refl
-  flat-same f g (x ∷ xs) h = rw (h x, flat-same f g xs h)
+  flat_same f g [] h = refl
+  flat_same f g (x ∷ xs) h = rw (h x, flat_same f g xs h)

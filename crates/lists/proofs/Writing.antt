@@ -9,12 +9,12 @@ use lib.ListN.{length, get_or, take, drop, set, length-append, length-drop, take
 use lib.Seq.{length-take-le, take_at, drop-append-add, drop-drop, set_split, get_or-take}
 use Rattle.lists.specs.Lists.{joined, part}
 use Rattle.lists.specs.Writing.{put, Written}
-use Rattle.lists.proofs.Pieces.{joined-more, joined_same, part_then, part_middle}
+use Rattle.lists.proofs.Pieces.{joined_more, joined_same, part_then, part_middle}
 
 module _ {A : Type 0} where
-  put-nil : (l : List A) (at : ℕ) → l ≡ put l at []
+  put_nil : (l : List A) (at : ℕ) → l ≡ put l at []
   unfolding put
-  put-nil l at = rw add-zero (sym (take-append-drop at l))
+  put_nil l at = rw add-zero (sym (take-append-drop at l))
 
   length-put : (l : List A) (at : ℕ) (xs : List A) → at + length xs ≤ length l → length (put l at xs) ≡ length l
   unfolding put
@@ -22,10 +22,10 @@ module _ {A : Type 0} where
       simp (length-append, length-drop, length-take-le at l (omega arith)) (omega arith)
 
   -- a part, and another right after it, are one part
-  put-put : (l : List A) (at : ℕ) (xs ys : List A) (p : ℕ) → at + length xs ≤ length l → p ≡ at + length xs
+  put_put : (l : List A) (at : ℕ) (xs ys : List A) (p : ℕ) → at + length xs ≤ length l → p ≡ at + length xs
       → put (put l at xs) p ys ≡ put l at (xs ++ ys)
   unfolding put
-  put-put l at xs ys p h e =
+  put_put l at xs ys p h e =
       let q : List A = take at l ++ xs in
       let r : List A = drop (at + length xs) l in
       let n : length q ≡ p = simp (length-append, length-take-le at l (omega arith)) (sym e) in
@@ -43,7 +43,7 @@ module _ {A : Type 0} where
   written_length {l} {out} {at} {p} {xs} w = ap length w.held ∙ length-put l at xs w.room
 
   pub written_none : (l : List A) (at : ℕ) → at ≤ length l → Written l l at [] at
-  written_none l at h = record { held = put-nil l at; room = omega arith; after = omega arith }
+  written_none l at h = record { held = put_nil l at; room = omega arith; after = omega arith }
 
   pub written_one : (l : List A) (p : ℕ) (v : A) → p < length l → Written l (set l p v) p (v ∷ []) (p + 1)
   written_one l p v h = record { held = put_one l p v h; room = omega arith; after = refl }
@@ -53,7 +53,7 @@ module _ {A : Type 0} where
       let n = length-append xs ys in
       let e = written_length w in
       record {
-        held = rw (v.held, w.held) (put-put l at xs ys p w.room w.after);
+        held = rw (v.held, w.held) (put_put l at xs ys p w.room w.after);
         room = omega arith;
         after = omega arith;
       }
@@ -72,7 +72,7 @@ module _ {A : Type 0} where
 
   pub written_more : (c : ℕ) (g : ℕ → List A) {l o o' : List A} {at p q : ℕ} → Written l o at (joined c g) p → Written o o' p (g c) q
       → Written l o' at (joined (c + 1) g) q
-  written_more c g w v = rw joined-more (written_then w v)
+  written_more c g w v = rw joined_more (written_then w v)
 
   -- a loop that stores one element a turn
   pub written_store : (j : ℕ) (f : ℕ → A) {l o : List A} {at p : ℕ} {v : A} → Written l o at (joined j (λ (k : ℕ). f k ∷ [])) p → p < length l

@@ -15,11 +15,11 @@ use lib.ListN.{length, take, drop, replicate, length-append, length-replicate, l
 use Rattle.lists.specs.Lists.{AllBelow}
 use Rattle.lists.proofs.Members.{all_take, all_drop}
 use Rattle.bits.specs.Bits.{bits_of, number}
-use Rattle.bits.proofs.Digits.{number-bits, number_below, bits_of_number, drop_bits}
+use Rattle.bits.proofs.Digits.{number_bits, number_below, bits_of_number, drop_bits}
 use Rattle.records.specs.declared.shape.Kind.{Kind}
 use Rattle.records.specs.Format.{sum, numbers, Meaning, two_low_bits, Format, format_by, next, readings}
 use Rattle.records.specs.Flags.{lowered, cleared}
-use Rattle.records.proofs.Readings.{numbers-append, next-size}
+use Rattle.records.proofs.Readings.{numbers_append, next_size}
 use Rattle.records.proofs.Meanings.{size_by, Alike, alike_none, alike_step}
 
 -- ---- a flag
@@ -34,16 +34,16 @@ unfolding lowered
 length-lowered bs = rw (length-append, length-replicate, length-drop) (omega arith)
 
 -- what is left is the number of the two low bits
-pub number-lowered : (bs : List ℕ) → AllBelow 2 bs → number (lowered bs) ≡ number bs % 4
+pub number_lowered : (bs : List ℕ) → AllBelow 2 bs → number (lowered bs) ≡ number bs % 4
 unfolding lowered
-number-lowered bs p = number_zeros (length bs - 2) (drop (length bs - 2) bs) ∙ by_size (dec_le 2 (length bs))
+number_lowered bs p = number_zeros (length bs - 2) (drop (length bs - 2) bs) ∙ by_size (dec_le 2 (length bs))
   where
     by_size : Dec (2 ≤ length bs) → number (drop (length bs - 2) bs) ≡ number bs % 4
     by_size (yes h) =
         let e : length bs ≡ length bs - 2 + 2 = omega arith in
         ap (λ (l : List ℕ). number (drop (length bs - 2) l)) (sym (bits_of_number bs p) ∙ ap (λ (w : ℕ). bits_of w (number bs)) e)
         ∙ ap number (drop_bits (length bs - 2) 2 (number bs))
-        ∙ number-bits 2 (number bs)
+        ∙ number_bits 2 (number bs)
     by_size (no h) =
         let g = lt_of_not-le h in
         let z : length bs - 2 ≡ 0 = omega arith in
@@ -57,11 +57,11 @@ abbrev behind : Format → ℕ → List ℕ → Option (List ℕ) → List ℕ
 behind F k b none = drop F.first b
 behind F k b (some vs) = take (sum vs - F.first) (drop F.first b) ++ cleared F k true (drop (sum vs) b)
 
-pub cleared-flag : (F : Format) (k : ℕ) (started : Bool) (b : List ℕ) → F.first ≤ length b → (o : Option (List ℕ)) → next F started b ≡ o
+pub cleared_flag : (F : Format) (k : ℕ) (started : Bool) (b : List ℕ) → F.first ≤ length b → (o : Option (List ℕ)) → next F started b ≡ o
     → cleared F (suc k) started b ≡ lowered (take F.first b) ++ behind F k b o
 unfolding cleared
-cleared-flag F k started b h none e = rw (le-leb F.first (length b) h, e, cleared)
-cleared-flag F k started b h (some vs) e = rw (le-leb F.first (length b) h, e, cleared)
+cleared_flag F k started b h none e = rw (le-leb F.first (length b) h, e, cleared)
+cleared_flag F k started b h (some vs) e = rw (le-leb F.first (length b) h, e, cleared)
 
 length-flag : (w : ℕ) (b : List ℕ) → w ≤ length b → length (lowered (take w b)) ≡ w
 length-flag w b h = length-lowered (take w b) ∙ length-take-le w b h
@@ -70,7 +70,7 @@ length-behind : (F : Format) (k : ℕ) (started : Bool) (b : List ℕ) (o : Opti
     → ((c : List ℕ) → length (cleared F k true c) ≡ length c) → length (behind F k b o) ≡ length b - F.first
 length-behind F k started b none e ih = length-drop F.first b
 length-behind F k started b (some vs) e ih =
-    let r = next-size F started b vs e in
+    let r = next_size F started b vs e in
     rw (length-append, length-take-le (sum vs - F.first) (drop F.first b) (rw length-drop (omega arith)), ih, length-drop) (omega arith)
 
 pub length-cleared : (F : Format) (k : ℕ) (started : Bool) (b : List ℕ) → length (cleared F k started b) ≡ length b
@@ -81,7 +81,7 @@ length-cleared F (suc k) started b = by_size (dec_le F.first (length b)) (λ c. 
     by_size : Dec (F.first ≤ length b) → ((c : List ℕ) → length (cleared F k true c) ≡ length c) → length (cleared F (suc k) started b) ≡ length b
     by_size (yes h) ih =
         rw (
-          cleared-flag F k started b h (next F started b) refl,
+          cleared_flag F k started b h (next F started b) refl,
           length-append,
           length-flag F.first b h,
           length-behind F k started b (next F started b) refl ih,
@@ -91,47 +91,47 @@ length-cleared F (suc k) started b = by_size (dec_le F.first (length b)) (λ c. 
 
 module _ (F : Format) (k : ℕ) (started : Bool) (b : List ℕ) where
   -- where a record may begin, the cleared bits begin with its flag's two low bits
-  cleared-number : AllBelow 2 b → F.first ≤ length b → number (take F.first (cleared F (suc k) started b)) ≡ number (take F.first b) % 4
-  cleared-number p h =
+  cleared_number : AllBelow 2 b → F.first ≤ length b → number (take F.first (cleared F (suc k) started b)) ≡ number (take F.first b) % 4
+  cleared_number p h =
       rw (
-        cleared-flag F k started b h (next F started b) refl,
+        cleared_flag F k started b h (next F started b) refl,
         take_at (lowered (take F.first b)) (behind F k b (next F started b)) F.first (length-flag F.first b h),
       )
-      (number-lowered (take F.first b) (all_take (λ (x : ℕ). x < 2) F.first b p))
+      (number_lowered (take F.first b) (all_take (λ (x : ℕ). x < 2) F.first b p))
 
   module _ (ws : List ℕ) (e : next F started b ≡ some (F.first ∷ ws)) where
     fits : F.first + sum ws ≤ length b
     unfolding sum
-    fits = (next-size F started b (F.first ∷ ws) e).1
+    fits = (next_size F started b (F.first ∷ ws) e).1
 
     run : length (take (sum ws) (drop F.first b)) ≡ sum ws
     run = length-take-le (sum ws) (drop F.first b) (rw length-drop (omega (arith, fits)))
 
     -- after the flag of a whole record its bits follow as they are, and then the cleared rest
-    cleared-after : drop F.first (cleared F (suc k) started b)
+    cleared_after : drop F.first (cleared F (suc k) started b)
         ≡ take (sum ws) (drop F.first b) ++ cleared F k true (drop (F.first + sum ws) b)
     unfolding sum
-    cleared-after =
+    cleared_after =
         let h : F.first ≤ length b = omega (arith, fits) in
         rw (
-          cleared-flag F k started b h (some (F.first ∷ ws)) e,
+          cleared_flag F k started b h (some (F.first ∷ ws)) e,
           drop_at (lowered (take F.first b)) _ F.first (length-flag F.first b h),
           add-sub_cancel_left,
         )
 
-    cleared-rest : drop (F.first + sum ws) (cleared F (suc k) started b) ≡ cleared F k true (drop (F.first + sum ws) b)
-    cleared-rest =
+    cleared_rest : drop (F.first + sum ws) (cleared F (suc k) started b) ≡ cleared F k true (drop (F.first + sum ws) b)
+    cleared_rest =
         sym (drop-drop (sum ws) F.first (cleared F (suc k) started b))
-        ∙ ap (drop (sum ws)) cleared-after
+        ∙ ap (drop (sum ws)) cleared_after
         ∙ drop_at (take (sum ws) (drop F.first b)) (cleared F k true (drop (F.first + sum ws) b)) (sum ws) run
 
-    cleared-numbers : numbers ws (drop F.first b) ≡ numbers ws (drop F.first (cleared F (suc k) started b))
-    cleared-numbers =
+    cleared_numbers : numbers ws (drop F.first b) ≡ numbers ws (drop F.first (cleared F (suc k) started b))
+    cleared_numbers =
         let t : List ℕ = take (sum ws) (drop F.first b) in
         ap (numbers ws) (sym (take-append-drop (sum ws) (drop F.first b)))
-        ∙ numbers-append ws t (drop (sum ws) (drop F.first b)) (omega (arith, run))
-        ∙ sym (numbers-append ws t (cleared F k true (drop (F.first + sum ws) b)) (omega (arith, run)))
-        ∙ ap (numbers ws) (sym cleared-after)
+        ∙ numbers_append ws t (drop (sum ws) (drop F.first b)) (omega (arith, run))
+        ∙ sym (numbers_append ws t (cleared F k true (drop (F.first + sum ws) b)) (omega (arith, run)))
+        ∙ ap (numbers ws) (sym cleared_after)
 
 -- The published reading has the records that a reading of the cleared bits has, where a flag below 4 means itself.
 module _ (kind : Kind) (first coord comp n : ℕ) (flag' : Meaning) (fixed : (x : ℕ) → x < 4 → flag' x ≡ x) where
@@ -144,9 +144,9 @@ module _ (kind : Kind) (first coord comp n : ℕ) (flag' : Meaning) (fixed : (x 
   cleared_alike (suc k) started b p =
       let F : Format = format_by two_low_bits kind first coord comp n in
       alike_step kind first coord comp n two_low_bits flag' k started b (cleared F (suc k) started b) (sym (length-cleared F (suc k) started b))
-      (λ h. rw (cleared-number F k started b p h) (sym (fixed (number (take first b) % 4) (mod-lt (number (take first b)) (lit< tt)))))
+      (λ h. rw (cleared_number F k started b p h) (sym (fixed (number (take first b) % 4) (mod-lt (number (take first b)) (lit< tt)))))
       (λ ws e. (
-        cleared-numbers F k started b ws e,
-        rw (cleared-rest F k started b ws e)
+        cleared_numbers F k started b ws e,
+        rw (cleared_rest F k started b ws e)
             (cleared_alike k true (drop (first + sum ws) b) (all_drop (λ (x : ℕ). x < 2) (first + sum ws) b p)),
       ))

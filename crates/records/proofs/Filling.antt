@@ -18,7 +18,7 @@ use Rattle.records.specs.declared.shape.Shape.TheVariants.{Follows, Ends}
 use Rattle.records.specs.declared.shape.Mesh.{Mesh}
 use Rattle.records.specs.Format.{shape_of, next, raw_reading}
 use Rattle.records.specs.Inner.Walk.{format_of, Readable, Run, numbers_at, widths_after, record_size, Standing, Vertices, Counted}
-use Rattle.records.proofs.Finding.{no_first_number, mesh-ends, record_cut, record_stands}
+use Rattle.records.proofs.Finding.{no_first_number, mesh_ends, record_cut, record_stands}
 use Rattle.records.proofs.Shapes.{small}
 use Rattle.records.proofs.Runs.{run_of_one, record_written}
 use Rattle.records.proofs.Walks.{length_record, rest_at, rest_start, rest_none, rest_record}
@@ -80,16 +80,16 @@ module _ {m : Mesh} {s l o : List ℕ} {count p at : ℕ} {started : Bool} (w : 
     goes_on : next (format_of m) started (drop at (stream s)) ≡ none → ⊥
     goes_on e = omega (arith, left, ap length (rest_none m s started at e))
 
-    first-there : Dec (at + m.first ≤ 8 * length s) → at + m.first ≤ 8 * length s
-    first-there (yes g) = g
-    first-there (no g) = absurd (goes_on (no_first_number m s started at w.within (lt_of_not-le g)))
+    first_there : Dec (at + m.first ≤ 8 * length s) → at + m.first ≤ 8 * length s
+    first_there (yes g) = g
+    first_there (no g) = absurd (goes_on (no_first_number m s started at w.within (lt_of_not-le g)))
 
     -- the record's first number is there, and there is room for it
     pub first_run : (Run s at m.first 1) × (p + 1 ≤ length o)
     first_run =
         let r = w.readable in
-        let there = first-there (dec_le (at + m.first) (8 * length s)) in (
-          record { some_bits = r.first_some; few_bits = r.first-few; whole = omega arith; short = w.short },
+        let there = first_there (dec_le (at + m.first) (8 * length s)) in (
+          record { some_bits = r.first_some; few_bits = r.first_few; whole = omega arith; short = w.short },
           omega (arith, w.counted.room, w.same),
         )
 
@@ -105,7 +105,7 @@ module _ {m : Mesh} {s l o : List ℕ} {count p at : ℕ} {started : Bool} (w : 
     -- a patch's flag has been written
     module _ {o' : List ℕ} {q : ℕ} (v : Written o o' p (numbers_at s at (replicate 1 m.first)) q) where
       pub patch_goes_on : Ends ≡ shape_of m.kind started (get_or o' p 0) → ⊥
-      patch_goes_on e = goes_on (mesh-ends m s started at w.within _ (run_of_one s at m.first v) e)
+      patch_goes_on e = goes_on (mesh_ends m s started at w.within _ (run_of_one s at m.first v) e)
 
       pub patch_turn : {coords colours : ℕ} → Follows coords colours ≡ shape_of m.kind started (get_or o' p 0)
           → Turn m s o count p at started coords (colours * m.n)
@@ -131,8 +131,8 @@ module _ {m : Mesh} {s l o : List ℕ} {count p at : ℕ} {started : Bool} (w : 
 
     -- of a patch its first number, which ends at after, and then the rest
     module _ {o' : List ℕ} {after : ℕ} (a : after ≡ at + 1 * m.first) (v : Written o o' p (numbers_at s at (replicate 1 m.first)) (p + 1)) where
-      pub rest-there : Readable m × (length s ≤ most_bytes) × (after + (coords * m.coord + comps * m.comp) ≤ 8 * length s) × (p + 1 + (coords + comps) ≤ length o')
-      rest-there = (w.readable, w.short, omega (arith, t.standing.whole), omega (arith, t.room, written_length v))
+      pub rest_there : Readable m × (length s ≤ most_bytes) × (after + (coords * m.coord + comps * m.comp) ≤ 8 * length s) × (p + 1 + (coords + comps) ≤ length o')
+      rest_there = (w.readable, w.short, omega (arith, t.standing.whole), omega (arith, t.room, written_length v))
 
       pub patch_done : {o'' : List ℕ} {place : ℕ} → place ≡ after + (coords * m.coord + comps * m.comp)
           → Written o' o'' (p + 1) (numbers_at s after (widths_after m coords comps)) (p + 1 + (coords + comps))

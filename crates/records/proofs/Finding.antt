@@ -37,8 +37,8 @@ module _ (m : Mesh) (s : List ℕ) (started : Bool) (p : ℕ) (within : p ≤ 8 
     unfolding field_at
     more_is e = rw (e, value)
 
-    pub mesh-ends : Ends ≡ shape_of m.kind started lead → next (format_of m) started (drop p (stream s)) ≡ none
-    mesh-ends e =
+    pub mesh_ends : Ends ≡ shape_of m.kind started lead → next (format_of m) started (drop p (stream s)) ≡ none
+    mesh_ends e =
         next_none (format_of m) started (drop p (stream s)) (λ ws q. absurd (none-ne-some ws (sym (more_is e) ∙ q)))
 
     module _ {coords colours : ℕ} (e : Follows coords colours ≡ shape_of m.kind started lead) where
@@ -59,6 +59,6 @@ module _ (m : Mesh) (s : List ℕ) (started : Bool) (p : ℕ) (within : p ≤ 8 
                 (omega (arith, length_from s p within, sum-after m coords (colours * m.n)));
             ends = b;
             whole = h;
-            coords-few = r.coords-few;
-            comps-few = r.comps-few;
+            coords_few = r.coords_few;
+            comps_few = r.comps_few;
           }

@@ -38,9 +38,9 @@ widths_readable_lem first coord comp e =
     let u = both_true (readable comp) (readable first) t.1 in
     record { of_first = width_readable first u.1; of_coord = width_readable coord t.0; of_comp = width_readable comp u.0 }
 
-pub layout-widths : (flag : FlagWidth) (coord comp entries : ℕ) → layout_readable coord comp flag entries ≡ true → Widths (first_width flag coord) coord comp
+pub layout_widths : (flag : FlagWidth) (coord comp entries : ℕ) → layout_readable coord comp flag entries ≡ true → Widths (first_width flag coord) coord comp
 unfolding layout_readable
-layout-widths flag coord comp entries e =
+layout_widths flag coord comp entries e =
     widths_readable_lem (first_width flag coord) coord comp (both_true (widths_readable (first_width flag coord) coord comp) (leb 4 entries) e).0
 
 -- every width of a record: its first number's, then so many coordinates', then components'

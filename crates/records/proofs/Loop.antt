@@ -36,7 +36,7 @@ Width m w = (1 ≤ w) × (w ≤ 32) × (w ≤ m)
 -- each record can be read, and takes m bits at least after its first number, which is no less than any of its widths
 record Level (F : Format) (m : ℕ) : Type 0 where
   first_some : 1 ≤ F.first
-  first-few : F.first ≤ 32
+  first_few : F.first ≤ 32
   widths : (started : Bool) (x : ℕ) (ws : List ℕ) → F.more started x ≡ some ws → All (Width m) ws × (m ≤ sum ws)
 
 -- ---- the reads of a patch
@@ -113,11 +113,11 @@ module _ (F : Format) (m : ℕ) (lv : Level F m) (s : List ℕ) (short : length 
         → loop F s (suc k) started p ≡ some (readings F n started (bits p))
     both_end n e z = e ∙ ap some (sym (readings_none F n started (bits p) z))
 
-    loop-flag : p / 8 < length s → p + F.first ≤ 8 * length s
+    loop_flag : p / 8 < length s → p + F.first ≤ 8 * length s
         → loop F s (suc k) started p ≡ patch_round s (loop F s k) started (flag p) (p + F.first) (F.more started (flag p))
     unfolding loop flagged field_at
-    loop-flag h e =
-        rw (lt-leb (length s) (p / 8) h, sym (answer_number s p F.first lv.first_some lv.first-few e (omega arith)))
+    loop_flag h e =
+        rw (lt-leb (length s) (p / 8) h, sym (answer_number s p F.first lv.first_some lv.first_few e (omega arith)))
 
     by_bits : (n : ℕ) (ws : List ℕ) → p / 8 < length s → p + F.first ≤ 8 * length s → F.more started (flag p) ≡ some ws
         → Dec (p + F.first + sum ws ≤ 8 * length s) → Same (suc k) n started p
@@ -127,7 +127,7 @@ module _ (F : Format) (m : ℕ) (lv : Level F m) (s : List ℕ) (short : length 
         let few = lv.first_some in
         let fits : F.first + sum ws ≤ length (bits p) = rw length-bits (omega arith) in
         let r = rest n true (p + F.first + sum ws) b (omega arith) (omega arith) in
-        loop-flag l e
+        loop_flag l e
         ∙ rw (z, reads_ok s short m (p + F.first) ws (lv.widths started _ ws z).0 b, r)
         (rw (
           readings_some F n started (bits p) (F.first ∷ ws) (next_fits F started (bits p) ws z fits),
@@ -143,16 +143,16 @@ module _ (F : Format) (m : ℕ) (lv : Level F m) (s : List ℕ) (short : length 
         let none-there = readings_none F n started (bits c.place) (too_few started c.place (omega (arith, c.wanting))) in
         let wants = lt_of_not-le b in
         let none_here = next_none F started (bits p) (λ vs y. let u : vs ≡ ws = cc in rw u (omega (arith, length-bits p))) in
-        both_end n (loop-flag l e ∙ rw (z, c.failed, there, none-there)) none_here
+        both_end n (loop_flag l e ∙ rw (z, c.failed, there, none-there)) none_here
 
-    by-more : (n : ℕ) (o : Option (List ℕ)) → p / 8 < length s → p + F.first ≤ 8 * length s → F.more started (flag p) ≡ o → Same (suc k) n started p
+    by_more : (n : ℕ) (o : Option (List ℕ)) → p / 8 < length s → p + F.first ≤ 8 * length s → F.more started (flag p) ≡ o → Same (suc k) n started p
     unfolding patch_round
-    by-more n none l e z h f g = both_end n (loop-flag l e ∙ rw z) (next_none F started (bits p) (λ ws y. absurd (none-ne-some ws (sym z ∙ y))))
-    by-more n (some ws) l e z h f g = by_bits n ws l e z (dec_le (p + F.first + sum ws) (8 * length s)) h f g
+    by_more n none l e z h f g = both_end n (loop_flag l e ∙ rw z) (next_none F started (bits p) (λ ws y. absurd (none-ne-some ws (sym z ∙ y))))
+    by_more n (some ws) l e z h f g = by_bits n ws l e z (dec_le (p + F.first + sum ws) (8 * length s)) h f g
 
     by_flag : (n : ℕ) → p / 8 < length s → Dec (p + F.first ≤ 8 * length s) → Same (suc k) n started p
     unfolding loop flagged
-    by_flag n l (yes e) h f g = by-more n (F.more started (flag p)) l e refl h f g
+    by_flag n l (yes e) h f g = by_more n (F.more started (flag p)) l e refl h f g
     by_flag n l (no e) h f g =
         let b = lt_of_not-le e in
         both_end n (rw (lt-leb (length s) (p / 8) l, sym (answer_short s p F.first lv.first_some b))) (too_few started p (omega arith))
@@ -162,13 +162,13 @@ module _ (F : Format) (m : ℕ) (lv : Level F m) (s : List ℕ) (short : length 
     by_place n (yes l) h f g = both_end n (rw (le-leb (length s) (p / 8) l)) (too_few started p (omega (arith, lv.first_some)))
     by_place n (no l) h f g = by_flag n (lt_of_not-le l) (dec_le (p + F.first) (8 * length s)) h f g
 
-  loop-reading : (k n : ℕ) (started : Bool) (p : ℕ) → Same k n started p
-  loop-reading zero n started p h f g = absurd (omega arith)
-  loop-reading (suc k) n started p h f g = by_place k started p (λ i t q a b c. loop-reading k i t q a b c) n (dec_le (length s) (p / 8)) h f g
+  loop_reading : (k n : ℕ) (started : Bool) (p : ℕ) → Same k n started p
+  loop_reading zero n started p h f g = absurd (omega arith)
+  loop_reading (suc k) n started p h f g = by_place k started p (λ i t q a b c. loop_reading k i t q a b c) n (dec_le (length s) (p / 8)) h f g
 
   loop_is_reading : (rounds : ℕ) → 8 * length s < rounds → loop F s rounds false 0 ≡ some (raw_reading F s)
   unfolding raw_reading
-  loop_is_reading rounds h = loop-reading rounds (length (stream s)) false 0 (omega arith) (omega arith) (omega (arith, length-stream s))
+  loop_is_reading rounds h = loop_reading rounds (length (stream s)) false 0 (omega arith) (omega arith) (omega (arith, length-stream s))
 
 -- ---- the four mesh types
 
@@ -193,10 +193,10 @@ module _ (coord comp : ℕ) (c : (1 ≤ coord) × (coord ≤ 32)) (d : (1 ≤ co
   component_widths zero colours = rw mul-zero tt
   component_widths (suc n) colours = all_replicate (Width (coord + suc n * comp)) (colours * suc n) comp (omega arith)
 
-  shape-widths : (n : ℕ) (sh : Shape) (ws : List ℕ) → widths_of coord comp n sh ≡ some ws → Filled sh
+  shape_widths : (n : ℕ) (sh : Shape) (ws : List ℕ) → widths_of coord comp n sh ≡ some ws → Filled sh
       → All (Width (coord + n * comp)) ws × (coord + n * comp ≤ sum ws)
   unfolding Filled
-  shape-widths n (Follows coords colours) ws e f =
+  shape_widths n (Follows coords colours) ws e f =
       rw (← some-injective _ ws e) (
         all_append (Width (coord + n * comp)) (replicate coords coord) (replicate (colours * n) comp)
             (all_replicate (Width (coord + n * comp)) coords coord (omega arith)) (component_widths n colours),
@@ -209,14 +209,14 @@ module _ (coord comp : ℕ) (c : (1 ≤ coord) × (coord ≤ 32)) (d : (1 ≤ co
           mul-le-mul f.1 (le_refl (n * comp)),
         ),
       )
-  shape-widths n Ends ws e f = absurd (none-ne-some ws e)
+  shape_widths n Ends ws e f = absurd (none-ne-some ws e)
 
   every_level : (kind : Kind) (first n : ℕ) → (1 ≤ first) × (first ≤ 32) → Level (format kind first coord comp n) (coord + n * comp)
   every_level kind first n f =
       record {
         first_some = f.0;
-        first-few = f.1;
-        widths = λ started x ws e. shape-widths n (shape_of kind started x) ws e (shape_filled kind started x);
+        first_few = f.1;
+        widths = λ started x ws e. shape_widths n (shape_of kind started x) ws e (shape_filled kind started x);
       }
 
 -- AFTER A CUT PATCH NO PATCH COMES. The loop that 000 has for Types 6 and 7 reads on from the bits left over. It is over within a round more than

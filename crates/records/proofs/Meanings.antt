@@ -21,7 +21,7 @@ use Rattle.records.specs.declared.shape.Kind.TheVariants.{Four, Five, Six, Seven
 use Rattle.records.specs.declared.shape.Shape.TheVariants.{Follows, Ends}
 use Rattle.records.specs.Format.{sum, numbers, Meaning, Format, points_after, colours_after, shape_of, widths_of, format_by, whole, next, readings}
 use Rattle.records.specs.Flags.{met}
-use Rattle.records.proofs.Readings.{length-numbers, next_some, next_none, next-size, readings_none, readings_some}
+use Rattle.records.proofs.Readings.{length-numbers, next_some, next_none, next_size, readings_none, readings_some}
 
 -- ---- how many numbers follow a record's first number
 
@@ -40,12 +40,12 @@ module _ (coord comp n : ℕ) where
   patch_size_lem true coords colours ws e = rw (← some-injective _ ws e) (length-widths coords colours)
   patch_size_lem false coords colours ws e = absurd (none-ne-some ws e)
 
-  pub widths-size : (kind : Kind) (started : Bool) (f : ℕ) (ws : List ℕ) → widths_of coord comp n (shape_of kind started f) ≡ some ws
+  pub widths_size : (kind : Kind) (started : Bool) (f : ℕ) (ws : List ℕ) → widths_of coord comp n (shape_of kind started f) ≡ some ws
       → length ws ≡ size_by kind n f
-  widths-size Four started f ws e = patch_size_lem true 2 1 ws e ∙ ap (2 +◌) (one-mul n)
-  widths-size Five started f ws e = patch_size_lem true 1 1 ws e ∙ ap (1 +◌) (one-mul n)
-  widths-size Six started f ws e = patch_size_lem (eqb f 0 || (started && leb f 3)) (2 * points_after 8 f) (colours_after f) ws e
-  widths-size Seven started f ws e = patch_size_lem (eqb f 0 || (started && leb f 3)) (2 * points_after 12 f) (colours_after f) ws e
+  widths_size Four started f ws e = patch_size_lem true 2 1 ws e ∙ ap (2 +◌) (one-mul n)
+  widths_size Five started f ws e = patch_size_lem true 1 1 ws e ∙ ap (1 +◌) (one-mul n)
+  widths_size Six started f ws e = patch_size_lem (eqb f 0 || (started && leb f 3)) (2 * points_after 8 f) (colours_after f) ws e
+  widths_size Seven started f ws e = patch_size_lem (eqb f 0 || (started && leb f 3)) (2 * points_after 12 f) (colours_after f) ws e
 
 -- ---- two lists of numbers whose records differ in their first numbers alone
 
@@ -85,11 +85,11 @@ pub met_here : (P : ℕ → Type 0) (F : Format) (k : ℕ) (started : Bool) (b :
 unfolding met
 met_here P F k started b a h = (rw (le-leb F.first (length b) h, met) at a).0
 
-pub met-after : (P : ℕ → Type 0) (F : Format) (k : ℕ) (started : Bool) (b vs : List ℕ) → All P (met F (suc k) started b) → next F started b ≡ some vs
+pub met_after : (P : ℕ → Type 0) (F : Format) (k : ℕ) (started : Bool) (b vs : List ℕ) → All P (met F (suc k) started b) → next F started b ≡ some vs
     → All P (met F k true (drop (sum vs) b))
 unfolding met
-met-after P F k started b vs a e =
-    let r = next-size F started b vs e in
+met_after P F k started b vs a e =
+    let r = next_size F started b vs e in
     (rw (le-leb F.first (length b) (omega arith), e, met) at a).1
 
 -- ---- two readings
@@ -102,10 +102,10 @@ module _ (kind : Kind) (first coord comp n : ℕ) (flag flag' : Meaning) where
   F' = format_by flag' kind first coord comp n
 
   -- flags that mean the same give records of the same widths
-  pub next-same : (started : Bool) (b c : List ℕ) → length b ≡ length c → (first ≤ length b → flag (number (take first b)) ≡ flag' (number (take first c)))
+  pub next_same : (started : Bool) (b c : List ℕ) → length b ≡ length c → (first ≤ length b → flag (number (take first b)) ≡ flag' (number (take first c)))
       → next F started b ≡ next F' started c
   unfolding next
-  next-same started b c l h = by_size (dec_le first (length b))
+  next_same started b c l h = by_size (dec_le first (length b))
     where
       by_size : Dec (first ≤ length b) → next F started b ≡ next F' started c
       by_size (yes g) = ap₂ (λ (m f : ℕ). whole first m (widths_of coord comp n (shape_of kind started f))) l (h g)
@@ -125,7 +125,7 @@ module _ (kind : Kind) (first coord comp n : ℕ) (flag flag' : Meaning) where
       by_next : (o : Option (List ℕ)) → next F started b ≡ o
           → Alike flag flag' (size_by kind n) (readings F (suc k) started b) (readings F' (suc k) started c)
       by_next none e =
-          rw (readings_none F (suc k) started b e, readings_none F' (suc k) started c (sym (next-same started b c l h) ∙ e))
+          rw (readings_none F (suc k) started b e, readings_none F' (suc k) started c (sym (next_same started b c l h) ∙ e))
           (alike_none flag flag' (size_by kind n))
       by_next (some vs) e =
           let r = next_some F started b vs e in
@@ -134,11 +134,11 @@ module _ (kind : Kind) (first coord comp n : ℕ) (flag flag' : Meaning) where
           let g = go ws q in
           rw (
             readings_some F k started b (first ∷ ws) q,
-            readings_some F' k started c (first ∷ ws) (sym (next-same started b c l h) ∙ q),
+            readings_some F' k started c (first ∷ ws) (sym (next_same started b c l h) ∙ q),
             ← g.0,
           )
           (alike_more flag flag' (size_by kind n) (number (take first b)) (number (take first c)) (numbers ws (drop first b))
-          (h (omega arith)) (length-numbers ws (drop first b) ∙ widths-size coord comp n kind started (flag (number (take first b))) ws r.1) g.1)
+          (h (omega arith)) (length-numbers ws (drop first b) ∙ widths_size coord comp n kind started (flag (number (take first b))) ws r.1) g.1)
 
   -- where the flags met mean the same, the records are alike
   pub met_alike : (k : ℕ) (started : Bool) (b : List ℕ) → All (λ (x : ℕ). flag x ≡ flag' x) (met F k started b)
@@ -147,7 +147,7 @@ module _ (kind : Kind) (first coord comp n : ℕ) (flag flag' : Meaning) where
   met_alike zero started b a = alike_none flag flag' (size_by kind n)
   met_alike (suc k) started b a =
       alike_step k started b b refl (met_here (λ (x : ℕ). flag x ≡ flag' x) F k started b a)
-      (λ ws e. (refl, met_alike k true (drop (first + sum ws) b) (met-after (λ (x : ℕ). flag x ≡ flag' x) F k started b (first ∷ ws) a e)))
+      (λ ws e. (refl, met_alike k true (drop (first + sum ws) b) (met_after (λ (x : ℕ). flag x ≡ flag' x) F k started b (first ∷ ws) a e)))
 
 -- ---- numbers met
 

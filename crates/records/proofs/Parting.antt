@@ -15,8 +15,8 @@ use Rattle.records.specs.declared.shape.Kind.TheVariants.{Four, Five, Six, Seven
 use Rattle.records.specs.declared.shape.Shape.TheVariants.{Ends}
 use Rattle.records.specs.Format.{sum, numbers, whole_number, two_low_bits, Format, patch_shape, shape_of, widths_of, format_by, whole, next, readings, raw_reading}
 use Rattle.records.specs.Flags.{Left, left}
-use Rattle.records.proofs.Readings.{length-numbers, next_some, next_fits, next_none, next-size, readings_none, readings_some, readings_enough}
-use Rattle.records.proofs.Meanings.{Alike, alike_none, alike_more, widths-size, size_by}
+use Rattle.records.proofs.Readings.{length-numbers, next_some, next_fits, next_none, next_size, readings_none, readings_some, readings_enough}
+use Rattle.records.proofs.Meanings.{Alike, alike_none, alike_more, widths_size, size_by}
 
 -- ---- where a reading ends
 
@@ -32,18 +32,18 @@ module _ (F : Format) where
   left_some k started b vs e = rw (e, left)
 
   -- no record begins there
-  pub left-ends : 1 ≤ F.first → (k : ℕ) (started : Bool) (b : List ℕ) → length b ≤ k
+  pub left_ends : 1 ≤ F.first → (k : ℕ) (started : Bool) (b : List ℕ) → length b ≤ k
       → next F (left F k started b).started (left F k started b).bits ≡ none
   unfolding left
-  left-ends f zero started b h = next_none F started b (λ ws e. omega arith)
-  left-ends f (suc k) started b h = by_next (next F started b) refl (left-ends f k true)
+  left_ends f zero started b h = next_none F started b (λ ws e. omega arith)
+  left_ends f (suc k) started b h = by_next (next F started b) refl (left_ends f k true)
     where
       by_next : (o : Option (List ℕ)) → next F started b ≡ o
           → ((c : List ℕ) → length c ≤ k → next F (left F k true c).started (left F k true c).bits ≡ none)
           → next F (left F (suc k) started b).started (left F (suc k) started b).bits ≡ none
       by_next none e ih = rw (left_none (suc k) started b e) e
       by_next (some vs) e ih =
-          let r = next-size F started b vs e in
+          let r = next_size F started b vs e in
           rw (left_some k started b vs e) (ih (drop (sum vs) b) (rw length-drop (omega arith)))
 
 -- ---- a flag above 3
@@ -105,11 +105,11 @@ module _ (kind : Kind) (first coord comp n : ℕ) where
           (sym e ∙ sym (ap (λ (x : ℕ). whole first (length b) (widths_of coord comp n (shape_of kind started x))) (mod-eq_of_lt (lt_of_not-le g))) ∙ q))
 
   -- the two low bits read on where the whole flags end, by any bound that is no less than the number of bits
-  pub readings-part : 1 ≤ first → (k m : ℕ) (started : Bool) (b : List ℕ) → length b ≤ k → length b ≤ m
+  pub readings_part : 1 ≤ first → (k m : ℕ) (started : Bool) (b : List ℕ) → length b ≤ k → length b ≤ m
       → let e : Left = left F k started b in readings F' k started b ≡ readings F k started b ++ readings F' m e.started e.bits
   unfolding readings left
-  readings-part f zero m started b h g = readings_enough F' zero m started b f h g
-  readings-part f (suc k) m started b h g = by_next (next F started b) refl (readings-part f k m true)
+  readings_part f zero m started b h g = readings_enough F' zero m started b f h g
+  readings_part f (suc k) m started b h g = by_next (next F started b) refl (readings_part f k m true)
     where
       by_next : (o : Option (List ℕ)) → next F started b ≡ o
           → ((c : List ℕ) → length c ≤ k → length c ≤ m
@@ -118,7 +118,7 @@ module _ (kind : Kind) (first coord comp n : ℕ) where
           ≡ readings F (suc k) started b ++ readings F' m (left F (suc k) started b).started (left F (suc k) started b).bits
       by_next none e ih = rw (readings_none F (suc k) started b e, left_none F (suc k) started b e) (readings_enough F' (suc k) m started b f h g)
       by_next (some vs) e ih =
-          let r = next-size F started b vs e in
+          let r = next_size F started b vs e in
           rw (
             readings_some F k started b vs e,
             left_some F k started b vs e,
@@ -145,7 +145,7 @@ module _ (kind : Kind) (first coord comp n : ℕ) where
           rw (readings_some F k started b (first ∷ ws) (e ∙ ap some r.2))
           (alike_more whole_number two_low_bits (size_by kind n) x x (numbers ws (drop first b))
           (sym (mod-eq_of_lt (below_4 coord comp n t started x ws r.1)))
-          (length-numbers ws (drop first b) ∙ widths-size coord comp n kind started x ws r.1) (ih (drop (first + sum ws) b)))
+          (length-numbers ws (drop first b) ∙ widths_size coord comp n kind started x ws r.1) (ih (drop (first + sum ws) b)))
 
 -- Type 6, flags of 3 bits, coordinates of 1, no components, bytes 80 00 00 00: a first flag of 4 begins a patch by its two low bits, and ends the mesh by
 -- the whole number

@@ -13,7 +13,7 @@ use lib.Seq.{take-append-le, drop-append-le, drop-drop}
 use Rattle.lists.specs.Lists.{Begins}
 use Rattle.lists.proofs.Members.{begins_nothing, begins_after, begins_of_take}
 use Rattle.bits.specs.Bits.{number, stream}
-use Rattle.bits.proofs.Streams.{length-stream, stream-append}
+use Rattle.bits.proofs.Streams.{length-stream, stream_append}
 use Rattle.records.specs.Format.{sum, numbers, Format, whole, next, readings, raw_reading}
 
 -- the bits from a place on
@@ -38,13 +38,13 @@ length-numbers [] b = refl
 length-numbers (w ∷ ws) b = ap suc (length-numbers ws (drop w b))
 
 -- the bits that come after the numbers do not count
-pub numbers-append : (ws b t : List ℕ) → sum ws ≤ length b → numbers ws (b ++ t) ≡ numbers ws b
+pub numbers_append : (ws b t : List ℕ) → sum ws ≤ length b → numbers ws (b ++ t) ≡ numbers ws b
 unfolding numbers sum
-numbers-append [] b t h = refl
-numbers-append (w ∷ ws) b t h =
+numbers_append [] b t h = refl
+numbers_append (w ∷ ws) b t h =
     ap₂ (λ (a : ℕ) (r : List ℕ). a ∷ r)
     (ap number (take-append-le w b t (omega arith)))
-    (ap (numbers ws) (drop-append-le w b t (omega arith)) ∙ numbers-append ws (drop w b) t (omega (arith, length-drop w b)))
+    (ap (numbers ws) (drop-append-le w b t (omega arith)) ∙ numbers_append ws (drop w b) t (omega (arith, length-drop w b)))
 
 -- some widths, then others
 pub numbers_then : (vs ws b : List ℕ) → numbers (vs ++ ws) b ≡ numbers vs b ++ numbers ws (drop (sum vs) b)
@@ -66,9 +66,9 @@ whole_some h l (some ws) vs e = go (leb (h + sum ws) l) refl e
     go true q e = (ws, refl, cc, leb-true (h + sum ws) l q)
     go false q e = absurd (none-ne-some vs e)
 
-pub whole-fits : (h l : ℕ) (ws : List ℕ) → h + sum ws ≤ l → whole h l (some ws) ≡ some (h ∷ ws)
+pub whole_fits : (h l : ℕ) (ws : List ℕ) → h + sum ws ≤ l → whole h l (some ws) ≡ some (h ∷ ws)
 unfolding whole
-whole-fits h l ws q = rw (le-leb (h + sum ws) l q)
+whole_fits h l ws q = rw (le-leb (h + sum ws) l q)
 
 -- a complete record: its widths, and its bits are there
 pub next_some : (F : Format) (started : Bool) (b vs : List ℕ) → next F started b ≡ some vs
@@ -79,7 +79,7 @@ next_some F started b vs e = whole_some F.first (length b) (F.more started (numb
 pub next_fits : (F : Format) (started : Bool) (b ws : List ℕ) → F.more started (number (take F.first b)) ≡ some ws
     → F.first + sum ws ≤ length b → next F started b ≡ some (F.first ∷ ws)
 unfolding next
-next_fits F started b ws e h = ap (whole F.first (length b)) e ∙ whole-fits F.first (length b) ws h
+next_fits F started b ws e h = ap (whole F.first (length b)) e ∙ whole_fits F.first (length b) ws h
 
 -- no record: the mesh ends at its first number, or its bits are not there
 pub next_none : (F : Format) (started : Bool) (b : List ℕ)
@@ -92,13 +92,13 @@ next_none F started b h = go (F.more started (number (take F.first b))) refl
     go (some ws) e = rw (lt-leb (F.first + sum ws) (length b) (h ws e))
 
 -- it takes its first number's bits at least
-pub next-size : (F : Format) (started : Bool) (b vs : List ℕ) → next F started b ≡ some vs → (F.first ≤ sum vs) × (sum vs ≤ length b)
+pub next_size : (F : Format) (started : Bool) (b vs : List ℕ) → next F started b ≡ some vs → (F.first ≤ sum vs) × (sum vs ≤ length b)
 unfolding sum
-next-size F started b vs e = let r = next_some F started b vs e in rw r.2 (omega arith, omega arith)
+next_size F started b vs e = let r = next_some F started b vs e in rw r.2 (omega arith, omega arith)
 
 -- what stands after a complete record does not count
-pub next-append : (F : Format) (started : Bool) (b t vs : List ℕ) → next F started b ≡ some vs → next F started (b ++ t) ≡ some vs
-next-append F started b t vs e =
+pub next_append : (F : Format) (started : Bool) (b t vs : List ℕ) → next F started b ≡ some vs → next F started (b ++ t) ≡ some vs
+next_append F started b t vs e =
     let r = next_some F started b vs e in
     next_fits F started (b ++ t) r.0
     (ap (λ (l : List ℕ). F.more started (number l)) (take-append-le F.first b t (omega arith)) ∙ r.1)
@@ -124,7 +124,7 @@ enough_step : (F : Format) (k m : ℕ) (started : Bool) (b : List ℕ) (o : Opti
     → readings F (suc k) started b ≡ readings F (suc m) started b
 enough_step F k m started b none e f h g ih = readings_none F (suc k) started b e ∙ sym (readings_none F (suc m) started b e)
 enough_step F k m started b (some vs) e f h g ih =
-    let r = next-size F started b vs e in
+    let r = next_size F started b vs e in
     readings_some F k started b vs e
     ∙ ap (λ (l : List ℕ). numbers vs b ++ l) (ih (drop (sum vs) b) (rw length-drop (omega arith)) (rw length-drop (omega arith)))
     ∙ sym (readings_some F m started b vs e)
@@ -145,7 +145,7 @@ readings_enough F (suc k) (suc m) started b f h g =
 pub readings_on : (F : Format) (k : ℕ) (started : Bool) (b vs : List ℕ) → 1 ≤ F.first → length b ≤ k → next F started b ≡ some vs
     → readings F k started b ≡ numbers vs b ++ readings F k true (drop (sum vs) b)
 readings_on F k started b vs f h e =
-    let r = next-size F started b vs e in
+    let r = next_size F started b vs e in
     readings_enough F k (suc k) started b f h (omega arith) ∙ readings_some F k started b vs e
 
 -- ---- a cut
@@ -157,11 +157,11 @@ begin_step : (F : Format) (k m : ℕ) (started : Bool) (b t : List ℕ) (o : Opt
 unfolding sum
 begin_step F k m started b t none e ih = rw (readings_none F (suc k) started b e) (begins_nothing _)
 begin_step F k m started b t (some vs) e ih =
-    let le : sum vs ≤ length b = (next-size F started b vs e).1 in
+    let le : sum vs ≤ length b = (next_size F started b vs e).1 in
     rw (
       readings_some F k started b vs e,
-      readings_some F m started (b ++ t) vs (next-append F started b t vs e),
-      numbers-append vs b t le,
+      readings_some F m started (b ++ t) vs (next_append F started b t vs e),
+      numbers_append vs b t le,
       drop-append-le (sum vs) b t le,
     )
     (begins_after (numbers vs b) (ih (drop (sum vs) b)))
@@ -179,7 +179,7 @@ readings_begin F (suc k) (suc m) started b t h =
 pub reading_begins : (F : Format) {s t : List ℕ} → Begins s t → Begins (raw_reading F s) (raw_reading F t)
 unfolding raw_reading
 reading_begins F {s} {t} b =
-    rw (b.is, stream-append s b.rest)
+    rw (b.is, stream_append s b.rest)
     (readings_begin F (length (stream s)) (length (stream s ++ stream b.rest)) false (stream s) (stream b.rest)
     (omega (arith, length-append (stream s) (stream b.rest))))
 

@@ -138,9 +138,9 @@ record_there {m} p coords comps r short h =
       widths =
           record_widths coords comps
           (record {
-            of_first = record { some_bits = r.first_some; few_bits = r.first-few };
-            of_coord = record { some_bits = r.coord_some; few_bits = r.coord-few };
-            of_comp = record { some_bits = r.comp_some; few_bits = r.comp-few };
+            of_first = record { some_bits = r.first_some; few_bits = r.first_few };
+            of_coord = record { some_bits = r.coord_some; few_bits = r.coord_few };
+            of_comp = record { some_bits = r.comp_some; few_bits = r.comp_few };
           });
       whole = omega (arith, sum-after m coords comps);
       short = short;
@@ -148,15 +148,15 @@ record_there {m} p coords comps r short h =
 
 -- the widths of its numbers after the first
 module _ (m : Mesh) (coords comps : ℕ) where
-  pub coord-at : (k : ℕ) → 1 ≤ k → k ≤ coords → m.coord ≡ get_or (m.first ∷ widths_after m coords comps) k 0
-  coord-at zero z h = absurd (omega arith)
-  coord-at (suc k) z h =
+  pub coord_at : (k : ℕ) → 1 ≤ k → k ≤ coords → m.coord ≡ get_or (m.first ∷ widths_after m coords comps) k 0
+  coord_at zero z h = absurd (omega arith)
+  coord_at (suc k) z h =
       let n : k < length (replicate coords m.coord) = omega (arith, length-replicate coords m.coord) in
       rw (get_or-append (replicate coords m.coord) (replicate comps m.comp) 0 k n, get_or-replicate coords k m.coord 0 (omega arith))
 
-  pub comp-at : (k : ℕ) → coords < k → k < 1 + coords + comps → m.comp ≡ get_or (m.first ∷ widths_after m coords comps) k 0
-  comp-at zero z h = absurd (omega arith)
-  comp-at (suc k) z h =
+  pub comp_at : (k : ℕ) → coords < k → k < 1 + coords + comps → m.comp ≡ get_or (m.first ∷ widths_after m coords comps) k 0
+  comp_at zero z h = absurd (omega arith)
+  comp_at (suc k) z h =
       let n : k ≡ length (replicate coords m.coord) + (k - coords) = omega (arith, length-replicate coords m.coord) in
       rw (n, get_or-append-add, get_or-replicate comps (k - coords) m.comp 0 (omega arith))
 

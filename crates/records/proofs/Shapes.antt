@@ -26,37 +26,37 @@ every_patch P own started (suc x) first joined ends = rw (eqb-suc-zero x) (go (s
 
 -- a patch by its flag
 module _ (own : ℕ) (started : Bool) (x : ℕ) where
-  pub first-patch : x ≡ 0 → Follows (2 * (4 + own)) 4 ≡ patch_shape own started x
-  first-patch e = ap (patch_shape own started) (sym e)
+  pub first_patch : x ≡ 0 → Follows (2 * (4 + own)) 4 ≡ patch_shape own started x
+  first_patch e = ap (patch_shape own started) (sym e)
 
   pub none_joined : (x ≡ 0 → ⊥) → started ≡ false → Ends ≡ patch_shape own started x
   none_joined n s = rw (ne_eqb x 0 n, s)
 
-  pub flag-ends : (x ≡ 0 → ⊥) → started ≡ true → 3 < x → Ends ≡ patch_shape own started x
-  flag-ends n s h = rw (ne_eqb x 0 n, s, lt-leb x 3 h)
+  pub flag_ends : (x ≡ 0 → ⊥) → started ≡ true → 3 < x → Ends ≡ patch_shape own started x
+  flag_ends n s h = rw (ne_eqb x 0 n, s, lt-leb x 3 h)
 
-pub joined-patch : (own : ℕ) (started : Bool) (x : ℕ) → (x ≡ 0 → ⊥) → started ≡ true → x ≤ 3 → Follows (2 * own) 2 ≡ patch_shape own started x
-joined-patch own started zero n s h = absurd (n refl)
-joined-patch own started (suc x) n s h = rw (eqb-suc-zero x, s, le-leb (suc x) 3 h)
+pub joined_patch : (own : ℕ) (started : Bool) (x : ℕ) → (x ≡ 0 → ⊥) → started ≡ true → x ≤ 3 → Follows (2 * own) 2 ≡ patch_shape own started x
+joined_patch own started zero n s h = absurd (n refl)
+joined_patch own started (suc x) n s h = rw (eqb-suc-zero x, s, le-leb (suc x) 3 h)
 
 -- no record has more than 32 coordinates and four colours
 abbrev Few : Shape → Type 0
 Few (Follows coords colours) = (coords ≤ 32) × (colours ≤ 4)
 Few Ends = Unit {0}
 
-few-shape : (kind : Kind) (started : Bool) (x : ℕ) → Few (shape_of kind started x)
-few-shape Four started x = (omega arith, omega arith)
-few-shape Five started x = (omega arith, omega arith)
-few-shape Six started x = every_patch Few 8 started x (omega arith, omega arith) (omega arith, omega arith) tt
-few-shape Seven started x = every_patch Few 12 started x (omega arith, omega arith) (omega arith, omega arith) tt
+few_shape : (kind : Kind) (started : Bool) (x : ℕ) → Few (shape_of kind started x)
+few_shape Four started x = (omega arith, omega arith)
+few_shape Five started x = (omega arith, omega arith)
+few_shape Six started x = every_patch Few 8 started x (omega arith, omega arith) (omega arith, omega arith) tt
+few_shape Seven started x = every_patch Few 12 started x (omega arith, omega arith) (omega arith, omega arith) tt
 
 -- what follows a record's first number
 pub record Small (m : Mesh) (coords colours : ℕ) : Type 0 where
-  pub coords-few : coords ≤ 32
-  pub comps-few : colours * m.n ≤ 128
+  pub coords_few : coords ≤ 32
+  pub comps_few : colours * m.n ≤ 128
 
 pub small : {m : Mesh} (started : Bool) (x : ℕ) {coords colours : ℕ} → Readable m → Follows coords colours ≡ shape_of m.kind started x
     → Small m coords colours
 small {m} started x {coords} {colours} r e =
-    let f : Few (Follows coords colours) = subst Few (sym e) (few-shape m.kind started x) in
-    record { coords-few = f.0; comps-few = mul-le-mul f.1 r.n-few }
+    let f : Few (Follows coords colours) = subst Few (sym e) (few_shape m.kind started x) in
+    record { coords_few = f.0; comps_few = mul-le-mul f.1 r.n_few }

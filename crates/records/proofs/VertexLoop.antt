@@ -58,10 +58,10 @@ either true = refl
 either false = refl
 
 module _ (asks : ℕ → Bool) (ws s : List ℕ) where
-  loop-whole : (k p : ℕ) (xs : List ℕ) (q : ℕ) → exhausted_at s p ≡ false → reads s p ws ≡ ok xs q
+  loop_whole : (k p : ℕ) (xs : List ℕ) (q : ℕ) → exhausted_at s p ≡ false → reads s p ws ≡ ok xs q
       → vertex_loop asks ws s (suc k) p ≡ xs ++ vertex_loop asks ws s k q
   unfolding vertex_loop kept_vertex
-  loop-whole k p xs q e f = rw (e, and-false, f)
+  loop_whole k p xs q e f = rw (e, and-false, f)
 
   loop_cut : (k p q : ℕ) → reads s p ws ≡ cut q → vertex_loop asks ws s (suc k) p ≡ []
   unfolding vertex_loop kept_vertex
@@ -80,7 +80,7 @@ module _ (asks : ℕ → Bool) (F : Format) (ws : List ℕ) (same : (started : B
   loop_turn k p started b (yes g) ih =
       let f = widths.0 in
       let d = length_from s p b in
-      loop-whole asks (F.first ∷ ws) s k p _ _ (not_exhausted s p (omega arith)) (reads_whole s short (F.first ∷ ws) p widths g)
+      loop_whole asks (F.first ∷ ws) s k p _ _ (not_exhausted s p (omega arith)) (reads_whole s short (F.first ∷ ws) p widths g)
       ∙ ap (λ (l : List ℕ). numbers (F.first ∷ ws) (drop p (stream s)) ++ l) (ih (p + (F.first + sum ws)) g ∙ rw (← (drop-drop (F.first + sum ws) p (stream s))))
       ∙ sym (readings_some F k started (drop p (stream s)) (F.first ∷ ws) (same_next F ws same started (drop p (stream s)) (omega arith)))
   loop_turn k p started b (no g) ih =
@@ -89,17 +89,17 @@ module _ (asks : ℕ → Bool) (F : Format) (ws : List ℕ) (same : (started : B
       loop_cut asks (F.first ∷ ws) s k p c.0 c.1
       ∙ sym (readings_none F (suc k) started (drop p (stream s)) (same_none F ws same started (drop p (stream s)) (omega arith)))
 
-  loop-from : (k p : ℕ) (started : Bool) → p ≤ 8 * length s → vertex_loop asks (F.first ∷ ws) s k p ≡ readings F k started (drop p (stream s))
+  loop_from : (k p : ℕ) (started : Bool) → p ≤ 8 * length s → vertex_loop asks (F.first ∷ ws) s k p ≡ readings F k started (drop p (stream s))
   unfolding vertex_loop readings
-  loop-from zero p started b = refl
-  loop-from (suc k) p started b =
-      loop_turn k p started b (dec_le (p + sum (F.first ∷ ws)) (8 * length s)) (λ q h. loop-from k q true h)
+  loop_from zero p started b = refl
+  loop_from (suc k) p started b =
+      loop_turn k p started b (dec_le (p + sum (F.first ∷ ws)) (8 * length s)) (λ q h. loop_from k q true h)
 
-  loop-reads : (k : ℕ) → 8 * length s ≤ k → vertex_loop asks (F.first ∷ ws) s k 0 ≡ raw_reading F s
+  loop_reads : (k : ℕ) → 8 * length s ≤ k → vertex_loop asks (F.first ∷ ws) s k 0 ≡ raw_reading F s
   unfolding raw_reading
-  loop-reads k h =
+  loop_reads k h =
       let n = length-stream s in
-      loop-from k 0 false (omega arith)
+      loop_from k 0 false (omega arith)
       ∙ readings_enough F k (length (stream s)) false (stream s) widths.0.some_bits (omega arith) (omega arith)
 
 -- the vertices of Types 4 and 5, with as many turns as there may be
@@ -108,5 +108,5 @@ pub vertex_loop_lem : (asks : ℕ → Bool) (kind : Kind) (first coord comp n co
     → (s : List ℕ) → length s ≤ most_bytes → (k : ℕ) → 8 * length s ≤ k
     → vertex_loop asks (first ∷ (replicate coords coord ++ replicate n comp)) s k 0 ≡ raw_reading (format kind first coord comp n) s
 vertex_loop_lem asks kind first coord comp n coords shape readable s short k h =
-    loop-reads asks (format kind first coord comp n) (replicate coords coord ++ replicate n comp) (vertex_more kind first coord comp n coords shape)
+    loop_reads asks (format kind first coord comp n) (replicate coords coord ++ replicate n comp) (vertex_more kind first coord comp n coords shape)
     (record_widths coords n (widths_readable_lem first coord comp readable)) s short k h

@@ -25,12 +25,12 @@ past_tests kind first coord comp n e few =
     let w = widths_readable_lem first coord comp e in
     record {
       first_some = w.of_first.some_bits;
-      first-few = w.of_first.few_bits;
+      first_few = w.of_first.few_bits;
       coord_some = w.of_coord.some_bits;
-      coord-few = w.of_coord.few_bits;
+      coord_few = w.of_coord.few_bits;
       comp_some = w.of_comp.some_bits;
-      comp-few = w.of_comp.few_bits;
-      n-few = few;
+      comp_few = w.of_comp.few_bits;
+      n_few = few;
     }
 
 -- ---- one record
@@ -83,7 +83,7 @@ module _ {m : Mesh} {s : List ℕ} {started : Bool} {at count : ℕ} (w : Counti
   count_step {coords} {comps} {end} r st =
       record {
         within = st.whole;
-        few = omega (arith, w.few, st.ends, st.coords-few, st.comps-few, r.first_some);
+        few = omega (arith, w.few, st.ends, st.coords_few, st.comps_few, r.first_some);
         total =
             omega (
               arith,

@@ -3,7 +3,7 @@
 use Prim.Native.Nat.{◌+◌, ◌*◌, ◌%◌}
 use mathlib.Core.Path.{◌≡◌}
 use native.Mathlib.Omega.{arith}
-use Rattle.bits.proofs.Streams.{field-from}
+use Rattle.bits.proofs.Streams.{field_from}
 use Rattle.bits.proofs.Answers.{answer_none, answer_wide, answer_short, answer_unplaced, answer_number}
 use Rattle.bits.proofs.read_seldom.Goals as goal
 
@@ -37,5 +37,5 @@ returns c =
     let a = c.args in
     let i = c.byte_of-place.result.0 in
     let e : 8 * i + a.at.0 % 8 ≡ a.at.0 = omega arith in
-    rw (c.field.ensures, field-from a.data.now i (a.at.0 % 8) a.n, e)
+    rw (c.field.ensures, field_from a.data.now i (a.at.0 % 8) a.n, e)
     (answer_number a.data.now a.at.0 a.n (omega arith) (omega arith) (omega arith) (omega arith))

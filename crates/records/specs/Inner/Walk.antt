@@ -17,12 +17,12 @@ format_of m = format m.kind m.first m.coord m.comp m.n
 -- past the tests of LAYOUT and COMPONENTS
 pub record Readable (m : Mesh) : Type 0 where
   pub first_some : 1 ≤ m.first
-  pub first-few : m.first ≤ 32
+  pub first_few : m.first ≤ 32
   pub coord_some : 1 ≤ m.coord
-  pub coord-few : m.coord ≤ 32
+  pub coord_few : m.coord ≤ 32
   pub comp_some : 1 ≤ m.comp
-  pub comp-few : m.comp ≤ 32
-  pub n-few : m.n ≤ most_components
+  pub comp_few : m.comp ≤ 32
+  pub n_few : m.n ≤ most_components
 
 -- the widths of so many coordinates and components, which follow a record's first number
 abbrev pub widths_after : Mesh → ℕ → ℕ → List ℕ
@@ -50,8 +50,8 @@ pub record Standing (m : Mesh) (s : List ℕ) (started : Bool) (p coords comps e
   pub widths : next (format_of m) started (drop p (stream s)) ≡ some (m.first ∷ widths_after m coords comps)
   pub ends : end ≡ p + record_size m coords comps
   pub whole : end ≤ 8 * length s
-  pub coords-few : coords ≤ 32
-  pub comps-few : comps ≤ 128
+  pub coords_few : coords ≤ 32
+  pub comps_few : comps ≤ 128
 
 -- the record that stands at bit p, or that the reading ends there
 abbrev pub FoundAt : Mesh → List ℕ → Bool → ℕ → Found → Type 0

@@ -1,7 +1,7 @@
 -- `decode::stored::big_endian` meets its contract: after i bytes the number is theirs, and below 256 ^ i. Assumes nothing.
 use Rattle.std.proofs.Common.{◌≡◌, ◌+◌, ◌-◌, ◌^◌, ◌<◌, ◌≤◌, get_or, sym, refl, ◌∙◌, arith, rules}
 use Rattle.decode.specs.Stored.{big_endian}
-use Rattle.decode.proofs.BigEndian.{big_endian-more, no_bytes, byte_more, byte_fits, number_too_long, number_cut, number-there}
+use Rattle.decode.proofs.BigEndian.{big_endian-more, no_bytes, byte_more, byte_fits, number_too_long, number_cut, number_there}
 use borrow.Author.Rules.{rules}
 use Rattle.decode.proofs.stored.big_endian.Goals as goal
 use Rattle.decode.proofs.stored.big_endian.Goals.{After-shared_slice_known-1}
@@ -44,4 +44,4 @@ returns c =
     let l = c.loop-i in
     let a = c.args in
     let e : l.i ≡ a.k = omega arith in
-    (rw e at l.invariant.1 ∙ sym (number-there a.bytes.now a.at a.k c.if-k-gt8.false (omega arith)), rw e at l.invariant.2)
+    (rw e at l.invariant.1 ∙ sym (number_there a.bytes.now a.at a.k c.if-k-gt8.false (omega arith)), rw e at l.invariant.2)

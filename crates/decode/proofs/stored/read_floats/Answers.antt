@@ -4,7 +4,7 @@ use lib.Ieee.{binary64, of_bits}
 use Rattle.lists.specs.Writing.{Written}
 use Rattle.lists.proofs.Writing.{written_start, written_store}
 use Rattle.decode.specs.Stored.{floats_at}
-use Rattle.decode.proofs.BigEndian.{number-there, floats_cut, floats_crowded, floats_held}
+use Rattle.decode.proofs.BigEndian.{number_there, floats_cut, floats_crowded, floats_held}
 use Rattle.decode.proofs.stored.read_floats.Goals as goal
 
 pub returns-then-bytes-k : goal.returns-then-bytes-k
@@ -29,7 +29,7 @@ loop-i-preserved c =
       omega arith,
       simp length-set l.invariant.1,
       written_store l.i _ l.invariant.2 (omega arith)
-          (c.float_of.ensures ∙ ap (of_bits binary64) (n.big_endian.ensures.0 ∙ number-there a.bytes.now (a.at + 8 * l.i) 8 (omega arith) (omega arith))),
+          (c.float_of.ensures ∙ ap (of_bits binary64) (n.big_endian.ensures.0 ∙ number_there a.bytes.now (a.at + 8 * l.i) 8 (omega arith) (omega arith))),
     )
 
 pub returns : goal.returns

@@ -4,7 +4,7 @@ use lib.Ieee.{binary64, of_bits}
 use Rattle.lists.specs.Writing.{Written}
 use Rattle.lists.proofs.Writing.{written_start, written_store}
 use Rattle.decode.specs.Stored.{floats_at}
-use Rattle.decode.proofs.BigEndian.{number-there, floats_cut, floats_crowded, floats_held}
+use Rattle.decode.proofs.BigEndian.{number_there, floats_cut, floats_crowded, floats_held}
 use Rattle.decode.proofs.stored.read_floats.Given as goal
 
 abbrev pub invariant-loop-i : goal.invariant-loop-i

@@ -6,9 +6,9 @@ use Rattle.records.proofs.raw.count_numbers.Goals as goal
 pub returns-in-Four : goal.returns-in-Four
 returns-in-Four c =
     let m = c.args.mesh in
-    c.count_vertices.ensures ∙ sym (vertex_count m.kind m.first m.coord m.comp m.n 2 (λ started x. rw c.enum_told-1.given.1) c.requires.0.first_some _)
+    c.count_vertices.ensures ∙ sym (vertex_count m.kind m.first m.coord m.comp m.n 2 (λ started x. rw c.in-Four.is) c.requires.0.first_some _)
 
 pub returns-in-Five : goal.returns-in-Five
 returns-in-Five c =
     let m = c.args.mesh in
-    c.count_vertices-in-Five.ensures ∙ sym (vertex_count m.kind m.first m.coord m.comp m.n 1 (λ started x. rw c.enum_told-in-Five-1.given.1) c.requires.0.first_some _)
+    c.count_vertices-in-Five.ensures ∙ sym (vertex_count m.kind m.first m.coord m.comp m.n 1 (λ started x. rw c.in-Five.is) c.requires.0.first_some _)

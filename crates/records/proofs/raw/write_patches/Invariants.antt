@@ -4,11 +4,11 @@ use Prim.Native.Nat.{◌-◌}
 use mathlib.Core.Path.{sym, ◌∙◌}
 use native.Mathlib.Omega.{arith}
 use Rattle.lists.proofs.Writing.{written_length}
-use Rattle.records.proofs.Filling.{Filling, fill_start, fill_end, first_run, patch_goes_on, patch_turn, rest-there, patch_done}
+use Rattle.records.proofs.Filling.{Filling, fill_start, fill_end, first_run, patch_goes_on, patch_turn, rest_there, patch_done}
 use Rattle.records.proofs.raw.write_patches.Given as goal
 
 abbrev pub invariant-loop-p : goal.invariant-loop-p
-invariant-loop-p l = Filling l.mesh l.data l.kind l.out l.count l.p l.at.0 l.started
+invariant-loop-p l = Filling l.mesh l.data l.initial.out l.out l.count l.p l.at.0 l.started
 
 abbrev pub decreases-loop-p : goal.decreases-loop-p
 decreases-loop-p l = l.count - l.p

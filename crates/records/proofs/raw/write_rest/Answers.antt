@@ -1,6 +1,5 @@
 -- `records::raw::write_rest` meets its contract: two runs, one right after the other. Assumes nothing.
 use native.Mathlib.Nat.{add_assoc}
-use native.Mathlib.Omega.{arith}
 use Rattle.records.proofs.Runs.{rest_written}
 use Rattle.records.proofs.raw.write_rest.Goals as goal
 
@@ -9,4 +8,4 @@ returns-clause-written c =
     let a = c.args in
     let f = c.write_run-middle.ensures in
     let g = c.write_run.ensures in
-    (omega (arith, f.0, g.0), rw (← add_assoc) (rest_written a.mesh _ _ a.coords a.comps f.1 (rw f.0 at g.1)))
+    rw (← add_assoc) (rest_written a.mesh _ _ a.coords a.comps f.written (rw f.result_value at g.written))

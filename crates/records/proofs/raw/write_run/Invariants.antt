@@ -7,7 +7,7 @@ use Rattle.records.proofs.Runs.{Upto, upto_start, upto_end, upto_goes_on, upto_s
 use Rattle.records.proofs.raw.write_run.Given as goal
 
 abbrev pub invariant-loop-k : goal.invariant-loop-k
-invariant-loop-k l = Upto l.data l.initial.at.0 (replicate l.count l.width) l.count l.p l.out l.initial.out l.k l.at.0
+invariant-loop-k l = Upto l.data l.initial.at.0 (replicate l.count l.width) l.count l.initial.out l.out l.p l.k l.at.0
 
 abbrev pub decreases-loop-k : goal.decreases-loop-k
 decreases-loop-k l = l.count - l.k

@@ -10,7 +10,7 @@ use Rattle.records.proofs.Runs.{Upto, upto_start, upto_end, upto_goes_on, upto_s
 use Rattle.records.proofs.raw.write_vertex.Given as goal
 
 abbrev pub invariant-loop-k : goal.invariant-loop-k
-invariant-loop-k l = Upto l.data l.initial.at.0 (l.mesh.first ∷ widths_after l.mesh l.coords l.mesh.n) l.initial.out l.p l.out l.size l.k l.at.0
+invariant-loop-k l = Upto l.data l.initial.at.0 (l.mesh.first ∷ widths_after l.mesh l.coords l.mesh.n) l.size l.initial.out l.out l.p l.k l.at.0
 
 abbrev pub decreases-loop-k : goal.decreases-loop-k
-decreases-loop-k l = l.initial.out - l.k
+decreases-loop-k l = l.size - l.k

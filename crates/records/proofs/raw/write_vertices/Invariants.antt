@@ -8,7 +8,7 @@ use Rattle.records.proofs.Filling.{Filling, fill_start, fill_end, vertex_turn, t
 use Rattle.records.proofs.raw.write_vertices.Given as goal
 
 abbrev pub invariant-loop-p : goal.invariant-loop-p
-invariant-loop-p l = (started : Bool) × Filling l.mesh l.data l.size l.out l.count l.p l.at.0 started
+invariant-loop-p l = (started : Bool) × Filling l.mesh l.data l.initial.out l.out l.count l.p l.at.0 started
 
 abbrev pub decreases-loop-p : goal.decreases-loop-p
 decreases-loop-p l = l.count - l.p

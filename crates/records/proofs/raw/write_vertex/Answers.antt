@@ -1,0 +1,39 @@
+-- `records::raw::write_vertex` meets its contract: each turn writes the vertex's next number, whose bits are all there. Assumes nothing.
+use Prim.Native.Nat.{◌-◌}
+use mathlib.Core.Path.{sym, ◌∙◌}
+use mathlib.Core.List.{◌∷◌}
+use native.Mathlib.Omega.{arith}
+use Rattle.records.specs.Format.{sum}
+use Rattle.records.specs.Inner.Walk.{widths_after}
+use Rattle.records.proofs.Finding.{sum-after}
+use Rattle.records.proofs.Runs.{Upto, upto_start, upto_end, upto_goes_on, upto_step, record_there}
+use Rattle.records.proofs.raw.write_vertex.Goals as goal
+
+pub loop-k-init : goal.loop-k-init
+loop-k-init c =
+    let z = c.requires in
+    upto_start _ _ (record_there _ c.args.coords _ z.0 z.1 z.2) z.3
+
+pub returns-in_default-clause-result_value : goal.returns-in_default-clause-result_value
+returns-in_default-clause-result_value c =
+    absurd
+    (upto_goes_on c.loop-k.invariant c.loop-k-test.true c.width_at.ensures
+    c.in_default.ensures)
+
+pub returns-in_default-clause-written : goal.returns-in_default-clause-written
+returns-in_default-clause-written c =
+    absurd
+    (upto_goes_on c.loop-k.invariant c.loop-k-test.true c.width_at.ensures
+    c.in_default.ensures)
+
+pub loop-k-preserved : goal.loop-k-preserved
+loop-k-preserved c =
+    upto_step c.loop-k.invariant c.loop-k-test.true c.width_at.ensures c.in-Number.value c.in-Number.next
+    c.in-Number.ensures
+
+pub returns-clause-result_value : goal.returns-clause-result_value
+unfolding sum
+returns-clause-result_value c =
+    let a = c.args in
+    let e = upto_end c.loop-k.invariant c.loop-k-test.false in
+    (omega (arith, e.0, sum-after a.mesh a.coords a.mesh.n))
