@@ -118,16 +118,24 @@ def table():
 
 
 def turned(text, names):
-    return WORD.sub(lambda m: names.get(m.group(0), m.group(0)), text)
+    """Words of antt; in a comment only those between backticks, since prose has dashes too."""
+    lines = text.split("\n")
+    for i, line in enumerate(lines):
+        if re.match(r"\s*(--|//)", line):
+            lines[i] = turned_page(line, names)
+        else:
+            lines[i] = WORD.sub(lambda m: names.get(m.group(0), m.group(0)), line)
+    return "\n".join(lines)
 
 
 def turned_source(text, names):
-    """Clauses, ghost items and comments of a source; the code's own words have no capital inside and no dash, but strings may hold any."""
+    """Clauses, ghost items and comments of a source. A word of the code has no capital inside and no dash, so names that look like one are left; strings may hold any."""
+    names = {old: new for old, new in names.items() if not re.fullmatch(r"[a-z0-9_]+", old)}
     return "".join(p if p.startswith('"') or p.startswith('b"') else turned(p, names) for p in re.split(r'(b?"(?:[^"\\\n]|\\.)*")', text))
 
 
 def turned_page(text, names):
-    return re.sub(r"`([^`\n]+)`", lambda m: "`" + turned(m.group(1), names) + "`", text)
+    return re.sub(r"`([^`\n]+)`", lambda m: "`" + WORD.sub(lambda w: names.get(w.group(0), w.group(0)), m.group(1)) + "`", text)
 
 
 def turned_edit(text, names):

@@ -19,7 +19,7 @@ use Rattle.records.specs.declared.shape.Kind.TheVariants.{Four, Six, Seven}
 use Rattle.records.specs.Layout.{layout_readable}
 use Rattle.records.specs.Format.{Meaning, two_low_bits, Format, format_by, readings, raw_reading}
 use Rattle.records.specs.Flags.{met, cleared}
-use Rattle.records.proofs.Layouts.{layout-widths}
+use Rattle.records.proofs.Layouts.{layout_widths}
 use Rattle.records.proofs.Meanings.{size_by, Alike, met_alike, met_below}
 use Rattle.records.proofs.Cleared.{length-cleared, cleared_alike}
 use Rattle.rules.specs.Triangles.{Rule, triangles}
@@ -82,11 +82,11 @@ module _ (kind : Kind) (coord comp flag : ℕ) (entries : List Float) (n : ℕ) 
 
   module _ (mesh : Mesh) (kept : Kept kind mesh) where
     -- meanings that agree on every number met
-    pub met-outcome : (meaning meaning' : Meaning) (s : List ℕ)
+    pub met_outcome : (meaning meaning' : Meaning) (s : List ℕ)
         → All (λ (x : ℕ). meaning x ≡ meaning' x) (met (F meaning) (length (stream s)) false (stream s))
         → (room : ℕ) → parsed (by meaning) mesh s room ≡ parsed (by meaning') mesh s room
     unfolding raw_reading
-    met-outcome meaning meaning' s a =
+    met_outcome meaning meaning' s a =
         same_outcome mesh meaning meaning' s s refl
         (λ e. kept meaning meaning' _ n _ _ (met_alike kind flag coord comp n meaning meaning' (length (stream s)) false (stream s) a))
 
@@ -97,7 +97,7 @@ module _ (kind : Kind) (coord comp flag : ℕ) (entries : List Float) (n : ℕ) 
     word_outcome meaning meaning' h s =
         same_outcome mesh meaning meaning' s s refl
         (λ e.
-        let w = layout-widths (Bits flag) coord comp (length entries) e in
+        let w = layout_widths (Bits flag) coord comp (length entries) e in
         let xs : List ℕ = met (F meaning) (length (stream s)) false (stream s) in
         kept meaning meaning' _ n _ _
         (met_alike kind flag coord comp n meaning meaning' (length (stream s)) false (stream s)
@@ -106,28 +106,28 @@ module _ (kind : Kind) (coord comp flag : ℕ) (entries : List Float) (n : ℕ) 
         (met_below (F meaning) (length (stream s)) false (stream s) (stream_below s)))))
 
     -- a mesh by the two low bits of its flags is that of the bits with the upper ones cleared, by any meaning that leaves flags below 4 alone
-    cleared-mesh : (meaning : Meaning) → ((x : ℕ) → x < 4 → meaning x ≡ x) → (R : Ranges) (s : List ℕ)
+    cleared_mesh : (meaning : Meaning) → ((x : ℕ) → x < 4 → meaning x ≡ x) → (R : Ranges) (s : List ℕ)
         → mesh (by_decode two_low_bits R) n (raw_reading (F two_low_bits) s)
         ≡ mesh (by_decode meaning R) n (readings (F meaning) (length (clear s)) false (clear s))
     unfolding raw_reading
-    cleared-mesh meaning fixed R s =
+    cleared_mesh meaning fixed R s =
         kept two_low_bits meaning R n _ _
         (rw (length-clear s)
         (cleared_alike kind flag coord comp n meaning fixed (length (stream s)) false (stream s) (stream_below s)))
 
-    pub cleared-outcome : (meaning : Meaning) → ((x : ℕ) → x < 4 → meaning x ≡ x) → (s t : List ℕ) → stream t ≡ clear s
+    pub cleared_outcome : (meaning : Meaning) → ((x : ℕ) → x < 4 → meaning x ≡ x) → (s t : List ℕ) → stream t ≡ clear s
         → (room : ℕ) → parsed (by two_low_bits) mesh s room ≡ parsed (by meaning) mesh t room
     unfolding raw_reading
-    cleared-outcome meaning fixed s t e =
+    cleared_outcome meaning fixed s t e =
         same_outcome mesh two_low_bits meaning s t
         (same_length s t (sym (ap length e ∙ length-clear s)))
-        (λ g. cleared-mesh meaning fixed _ s ∙ ap (λ (b : List ℕ). mesh (decode_of (by meaning)) n (readings (F meaning) (length b) false b)) (sym e))
+        (λ g. cleared_mesh meaning fixed _ s ∙ ap (λ (b : List ℕ). mesh (decode_of (by meaning)) n (readings (F meaning) (length b) false b)) (sym e))
 
     -- so bytes that differ in the upper bits of flags alone have the same mesh
     pub unseen_outcome : (s t : List ℕ) → clear s ≡ clear t → (room : ℕ) → parsed (by two_low_bits) mesh s room ≡ parsed (by two_low_bits) mesh t room
     unseen_outcome s t e =
         same_outcome mesh two_low_bits two_low_bits s t (same_length s t (sym (length-clear s) ∙ ap length e ∙ length-clear t))
         (λ g.
-        cleared-mesh two_low_bits (λ x l. mod-eq_of_lt l) _ s
+        cleared_mesh two_low_bits (λ x l. mod-eq_of_lt l) _ s
         ∙ ap (λ (b : List ℕ). mesh (decode_of (by two_low_bits)) n (readings (F two_low_bits) (length b) false b)) e
-        ∙ sym (cleared-mesh two_low_bits (λ x l. mod-eq_of_lt l) _ t))
+        ∙ sym (cleared_mesh two_low_bits (λ x l. mod-eq_of_lt l) _ t))

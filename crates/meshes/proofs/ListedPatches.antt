@@ -15,7 +15,7 @@ use Rattle.colour.specs.Inner.Places.{list_numbers}
 use Rattle.rules.specs.Patches.{Piece, Places, Table, onto, patch_of, mesh}
 use Rattle.records.specs.Format.{points_after, colours_after}
 use Rattle.rules.specs.Meshes.{size_after, piece, pieces, patch_mesh}
-use Rattle.rules.proofs.Patches.{each_piece, mesh-ends}
+use Rattle.rules.proofs.Patches.{each_piece, mesh_ends}
 use Rattle.rules.proofs.Meshes.{pieces_none, pieces_more, pieces_cut}
 use Rattle.meshes.specs.Decoded.{as_listed}
 use Rattle.meshes.proofs.Standing.{reads_listed, in_list}
@@ -66,7 +66,7 @@ module _ (vs : List Float) (own n : ℕ) where
         by_size l (yes g) =
             let over : highest b < f = lt_of_not-le (λ k. let z = h k in omega arith) in
             let q : RowPiece = each_piece as_listed.point as_listed.colour (piece nan own n f (drop (p + 1) vs)) in
-            rw (starts p f refl g) (mesh-ends T b q _ (no_patch b f q.body over))
+            rw (starts p f refl g) (mesh_ends T b q _ (no_patch b f q.body over))
         by_size l (no g) =
             let cut : length (drop (p + 1) vs) < size_after own n f = rw length-drop (omega (arith, lt_of_not-le g, list_size p f)) in
             nothing b p (ap (pieces nan flag_of own n) (here p l) ∙ pieces_cut nan own n flag_of (get_or vs p nan) (drop (p + 1) vs) cut)

@@ -11,10 +11,10 @@ use Rattle.lists.specs.Lists.{joined, part}
 use Rattle.lists.proofs.Pieces.{joined_same, length-joined}
 
 module _ {A : Type 0} where
-  pub joined-first : (k : ℕ) (f : ℕ → List A) → joined (suc k) f ≡ f 0 ++ joined k (λ (i : ℕ). f (suc i))
+  pub joined_first : (k : ℕ) (f : ℕ → List A) → joined (suc k) f ≡ f 0 ++ joined k (λ (i : ℕ). f (suc i))
   unfolding joined
-  joined-first zero f = sym (append-nil (f 0))
-  joined-first (suc k) f = rw (joined-first k f, append_assoc)
+  joined_first zero f = sym (append-nil (f 0))
+  joined_first (suc k) f = rw (joined_first k f, append_assoc)
 
   -- a part of the second of two lists, or of the first
   pub part_second : (d : A) (xs ys : List A) (from k : ℕ) → part d (xs ++ ys) (length xs + from) k ≡ part d ys from k
@@ -22,9 +22,9 @@ module _ {A : Type 0} where
   part_second d xs ys from k =
       joined_same k _ _ (λ j b. ap (λ (v : A). v ∷ []) (rw (add_assoc (length xs) from j) (get_or-append-add xs ys (from + j) d)))
 
-  pub part-first : (d : A) (xs ys : List A) (from k : ℕ) → from + k ≤ length xs → part d (xs ++ ys) from k ≡ part d xs from k
+  pub part_first : (d : A) (xs ys : List A) (from k : ℕ) → from + k ≤ length xs → part d (xs ++ ys) from k ≡ part d xs from k
   unfolding part
-  part-first d xs ys from k h =
+  part_first d xs ys from k h =
       joined_same k _ _ (λ j b. ap (λ (v : A). v ∷ []) (get_or-append xs ys d (from + j) (omega arith)))
 
   -- of k pieces of m elements each, a part of piece i
@@ -40,7 +40,7 @@ module _ {A : Type 0} where
       by (no g) rest = rest (lt_of_not-le g)
       by (yes g) rest =
           let e : i ≡ k = omega arith in
-          rw (e, ← (length-joined k m f sized), part_second) (part-first d (f k) ys from size (rw (sized k) w))
+          rw (e, ← (length-joined k m f sized), part_second) (part_first d (f k) ys from size (rw (sized k) w))
 
   -- an element of piece i
   pub element_of_piece : (d : A) (k m : ℕ) (f : ℕ → List A) → ((i : ℕ) → length (f i) ≡ m) → (i j : ℕ) → i < k → j < m

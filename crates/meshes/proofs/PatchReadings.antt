@@ -17,7 +17,7 @@ use Rattle.answers.specs.declared.Refusal.TheVariants.{Components, Length, Room}
 use Rattle.decode.specs.Decode.{flag_of}
 use Rattle.rules.specs.Patches.{Patch, Piece, Table, sides, list_sides, mesh}
 use Rattle.rules.specs.Meshes.{pieces, patches, patch_mesh}
-use Rattle.rules.proofs.Patches.{mesh-more, tables_count_equal}
+use Rattle.rules.proofs.Patches.{mesh_more, tables_count_equal}
 use Rattle.rules.proofs.Tables.{sides_fit}
 use Rattle.rules.proofs.Rows.{length-patch_mesh}
 use Rattle.meshes.specs.Decoded.{as_listed}
@@ -56,9 +56,9 @@ new_alike : {P C : Type 0} (T U : Table) (b : Option (Patch P C)) (qs : List (Pi
 unfolding mesh
 new_alike T U b [] a = refl
 new_alike T U b (q ∷ qs) a =
-    mesh-more T b q qs q.body (rw a.0)
+    mesh_more T b q qs q.body (rw a.0)
     ∙ ap (λ (ps : List (Patch _ _)). q.body ∷ ps) (new_alike T U (some q.body) qs a.1)
-    ∙ sym (mesh-more U b q qs q.body (rw a.0))
+    ∙ sym (mesh_more U b q qs q.body (rw a.0))
 
 pub type7_lists_agree_on_new_patches : (vs : List Float) (n : ℕ) → All (λ (q : Piece (List Float) (List Float)). q.flag ≡ 0) (pieces nan flag_of 12 n vs)
     → patch_mesh list_sides 12 as_listed n vs ≡ patch_mesh sides 12 as_listed n vs

@@ -12,7 +12,7 @@ use Rattle.rules.specs.Patches.{Patch, Piece, Table, mesh, patch_row}
 use Rattle.records.specs.Format.{points_after, colours_after}
 use Rattle.rules.specs.Meshes.{Source, Finished, piece, pieces, patches, patch_mesh}
 use Rattle.rules.specs.Inner.Sides.{Fits}
-use Rattle.rules.proofs.Patches.{each, each_piece, flat_map, mesh-decoded, patch_row-decoded}
+use Rattle.rules.proofs.Patches.{each, each_piece, flat_map, mesh_decoded, patch_row-decoded}
 use Rattle.rules.proofs.Meshes.{Numbered, piece_numbered}
 use Rattle.rules.proofs.RawReading.{there}
 use Rattle.rules.proofs.Rows.{length-patch_mesh}
@@ -106,7 +106,7 @@ module _ {A : Type 0} {S : Source A Float} (reads : SourceReads S) (own n : ℕ)
   records_of T lead coord comp limit flag N rest step ends =
       let qs : List (Piece (List A) (List A)) = pieces S.missing S.flag own n (rest false 0) in
       let id : List Float → List Float = λ (row : List Float). row in
-      let rows = mesh-decoded S.point S.colour T none qs in
+      let rows = mesh_decoded S.point S.colour T none qs in
       record {
         from = λ started p. row_pieces (rest started p);
         count_is = sym (ap length rows ∙ length-map (mesh T none qs) (each S.point S.colour));

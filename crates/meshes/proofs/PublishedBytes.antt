@@ -22,7 +22,7 @@ use Rattle.records.specs.declared.shape.Kind.TheVariants.{Four, Five, Six, Seven
 use Rattle.records.specs.Format.{Meaning, whole_number, two_low_bits, format_by, next}
 use Rattle.records.specs.Flags.{met, Left, left}
 use Rattle.records.proofs.Meanings.{narrow_met}
-use Rattle.records.proofs.Parting.{PatchKind, part_above_3, left-ends}
+use Rattle.records.proofs.Parting.{PatchKind, part_above_3, left_ends}
 use Rattle.records.proofs.Changed.{flag_changed}
 use Rattle.rules.specs.Triangles.{start, triangle_before, triangles}
 use Rattle.rules.specs.Patches.{sides}
@@ -31,11 +31,11 @@ use Rattle.rules.proofs.Properties.{looked_at, parts}
 use Rattle.rules.proofs.Lists.{all_map}
 use Rattle.rules.proofs.Meshes.{MeshBegins}
 use Rattle.rules.proofs.RawReading.{bytes4_begins, bytes67_begins}
-use Rattle.rules.proofs.TwoMeanings.{below_4_same, parts-exactly}
-use Rattle.rules.proofs.Parting.{ported_begins, part-exactly, part_same}
+use Rattle.rules.proofs.TwoMeanings.{below_4_same, parts_exactly}
+use Rattle.rules.proofs.Parting.{ported_begins, part_exactly, part_same}
 use Rattle.meshes.specs.Decoded.{by_decode}
 use Rattle.meshes.specs.Outcomes.{raw_of, decode_of, parsed, ported_reader, published_reader}
-use Rattle.meshes.proofs.FlagReadings.{Mesh, Kept, by, clear, same_outcome, met-outcome, cleared-outcome, unseen_outcome, type4_kept, type6_kept, type7_kept}
+use Rattle.meshes.proofs.FlagReadings.{Mesh, Kept, by, clear, same_outcome, met_outcome, cleared_outcome, unseen_outcome, type4_kept, type6_kept, type7_kept}
 use Rattle.meshes.proofs.TriangleReadings.{type4_ported}
 
 -- ---- the types with flags
@@ -51,10 +51,10 @@ mesh_of type4 = type4_mesh (triangles triangle_before)
 mesh_of type6 = patch_mesh sides 8
 mesh_of type7 = patch_mesh sides 12
 
-mesh-kept : {kind : Kind} (h : HasFlags kind) → Kept kind (mesh_of h)
-mesh-kept type4 = type4_kept triangle_before
-mesh-kept type6 = type6_kept sides
-mesh-kept type7 = type7_kept sides
+mesh_kept : {kind : Kind} (h : HasFlags kind) → Kept kind (mesh_of h)
+mesh_kept type4 = type4_kept triangle_before
+mesh_kept type6 = type6_kept sides
+mesh_kept type7 = type7_kept sides
 
 -- the numbers met where a flag stands, by whole flags
 abbrev pub flags_met : Kind → ℕ → ℕ → ℕ → ℕ → List ℕ → List ℕ
@@ -109,13 +109,13 @@ module _ {kind : Kind} (h : HasFlags kind) (coord comp flag : ℕ) (entries : Li
   below_4_alike s a =
       let agree = all_map (λ (x : ℕ). x < 4) (λ (x : ℕ). whole_number x ≡ two_low_bits x) (flags_met kind coord comp flag n s) (λ x l. sym (mod-eq_of_lt l)) a in
       published_is s
-      ∙ sym (met-outcome kind coord comp flag entries n (mesh_of h) (mesh-kept h) whole_number two_low_bits s agree room)
+      ∙ sym (met_outcome kind coord comp flag entries n (mesh_of h) (mesh_kept h) whole_number two_low_bits s agree room)
       ∙ sym (ported_is s)
 
   -- bytes that differ in the upper bits of their flags alone are read alike
   pub upper_bits_unseen : (s t : List ℕ) → clear kind coord comp flag entries n s ≡ clear kind coord comp flag entries n t → published s ≡ published t
   upper_bits_unseen s t e =
-      published_is s ∙ unseen_outcome kind coord comp flag entries n (mesh_of h) (mesh-kept h) s t e room ∙ sym (published_is t)
+      published_is s ∙ unseen_outcome kind coord comp flag entries n (mesh_of h) (mesh_kept h) s t e room ∙ sym (published_is t)
 
   -- A flag that stands where a reading of j records ends: another with the same two low bits in its place changes nothing.
   pub one_flag_unseen : (j : ℕ) (s t before x y after : List ℕ) → stream s ≡ before ++ (x ++ after) → stream t ≡ before ++ (y ++ after)
@@ -133,7 +133,7 @@ module _ {kind : Kind} (h : HasFlags kind) (coord comp flag : ℕ) (entries : Li
   -- to read published is to clear the upper bits and read ported
   pub ported_of_cleared : (s t : List ℕ) → stream t ≡ clear kind coord comp flag entries n s → published s ≡ ported t
   ported_of_cleared s t e =
-      published_is s ∙ cleared-outcome kind coord comp flag entries n (mesh_of h) (mesh-kept h) whole_number (λ x l. refl) s t e room ∙ sym (ported_is t)
+      published_is s ∙ cleared_outcome kind coord comp flag entries n (mesh_of h) (mesh_kept h) whole_number (λ x l. refl) s t e room ∙ sym (ported_is t)
 
 -- flags of one or two bits are below 4
 pub narrow_flags_alike : (kind : Kind) (s : List ℕ) (coord comp flag : ℕ) (entries : List Float) (n row room : ℕ) → flag ≤ 2
@@ -157,9 +157,9 @@ unfolding joined
 map-joined f zero g = refl
 map-joined f (suc k) g = map-append f (joined k g) (g k) ∙ ap (λ (l : List _). l ++ map f (g k)) (map-joined f k g)
 
-flags-by : (flag : Meaning) (n : ℕ) (xs : List ℕ) → flags 0 flag n xs ≡ map flag (flags 0 whole_number n xs)
+flags_by : (flag : Meaning) (n : ℕ) (xs : List ℕ) → flags 0 flag n xs ≡ map flag (flags 0 whole_number n xs)
 unfolding flags
-flags-by flag n xs = sym (map-joined flag (length xs / (n + 3)) (λ (i : ℕ). get_or xs (i * (n + 3)) 0 ∷ []))
+flags_by flag n xs = sym (map-joined flag (length xs / (n + 3)) (λ (i : ℕ). get_or xs (i * (n + 3)) 0 ∷ []))
 
 module _ (coord comp flag : ℕ) (entries : List Float) (n : ℕ) (s : List ℕ) where
   -- what the flags of all vertices come to by a meaning
@@ -170,17 +170,17 @@ module _ (coord comp flag : ℕ) (entries : List Float) (n : ℕ) (s : List ℕ)
       → published_reader Four s coord comp flag entries n row room ≡ ported_reader Four s coord comp flag entries n row room
   looked_at_alike a row room =
       published_is type4 coord comp flag entries n row room s
-      ∙ same_outcome Four coord comp flag entries n (type4_mesh (triangles triangle_before)) two_low_bits whole_number s s refl (λ e. same-mesh) room
+      ∙ same_outcome Four coord comp flag entries n (type4_mesh (triangles triangle_before)) two_low_bits whole_number s s refl (λ e. same_mesh) room
       ∙ sym (ported_is type4 coord comp flag entries n row room s)
     where
-      same-mesh : mesh_by type4 coord comp flag entries n two_low_bits s ≡ mesh_by type4 coord comp flag entries n whole_number s
-      same-mesh =
+      same_mesh : mesh_by type4 coord comp flag entries n two_low_bits s ≡ mesh_by type4 coord comp flag entries n whole_number s
+      same_mesh =
           unfold type4_mesh in
-          rw (flags-by two_low_bits n (raw_of (by Four coord comp flag entries n whole_number) s), ← (below_4_same (flags4 whole_number) a))
+          rw (flags_by two_low_bits n (raw_of (by Four coord comp flag entries n whole_number) s), ← (below_4_same (flags4 whole_number) a))
 
   -- the two have the same triangles exactly where the flags do not part
   pub type4_parts : (triangles triangle_before (flags4 whole_number) ≡ triangles triangle_before (flags4 two_low_bits)) ↔ (parts start 0 (flags4 whole_number) ≡ false)
-  type4_parts = rw (flags-by two_low_bits n (raw_of (by Four coord comp flag entries n whole_number) s)) (parts-exactly (flags4 whole_number))
+  type4_parts = rw (flags_by two_low_bits n (raw_of (by Four coord comp flag entries n whole_number) s)) (parts_exactly (flags4 whole_number))
 
 -- ---- Types 6 and 7: the ported reading ends at the first flag above 3
 
@@ -197,7 +197,7 @@ module _ (kind : Kind) (coord comp flag n : ℕ) (s : List ℕ) where
   pub parts_above_3 : 1 ≤ flag → (ws : List ℕ) → next_there ≡ some ws → 3 < number (take flag end.bits)
   parts_above_3 some_bits ws e =
       part_above_3 kind flag coord comp n end.started end.bits ws
-      (left-ends (format_by whole_number kind flag coord comp n) some_bits (length (stream s)) false (stream s) (omega arith)) e
+      (left_ends (format_by whole_number kind flag coord comp n) some_bits (length (stream s)) false (stream s) (omega arith)) e
 
 module _ {kind : Kind} {own : ℕ} (t : PatchKind kind own) (coord comp flag : ℕ) (entries : List Float) (n : ℕ) (some_bits : 1 ≤ flag) (s : List ℕ) where
   abbrev pub patches_by : Meaning → Finished Float
@@ -214,8 +214,8 @@ module _ {kind : Kind} {own : ℕ} (t : PatchKind kind own) (coord comp flag : �
   ported_begins_published = ported_begins t flag coord comp n some_bits s point colour
 
   -- they are equally many exactly where the published reading finds no record there either; then they are the same
-  pub patches-part : ((patches_by whole_number).count ≡ (patches_by two_low_bits).count) ↔ (next_there kind coord comp flag n s ≡ none)
-  patches-part = part-exactly t flag coord comp n some_bits s point colour
+  pub patches_part : ((patches_by whole_number).count ≡ (patches_by two_low_bits).count) ↔ (next_there kind coord comp flag n s ≡ none)
+  patches_part = part_exactly t flag coord comp n some_bits s point colour
 
   pub no_more_alike : next_there kind coord comp flag n s ≡ none → patches_by whole_number ≡ patches_by two_low_bits
   no_more_alike e = part_same t flag coord comp n some_bits s point colour e

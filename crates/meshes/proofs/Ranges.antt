@@ -7,7 +7,7 @@ use lib.ListN.{length, take, drop, length-drop}
 use lib.Seq.{length-take-le}
 use lib.Ieee.{Float}
 use Rattle.lists.specs.Lists.{flat, All}
-use Rattle.lists.proofs.Pieces.{flat-same, length_part}
+use Rattle.lists.proofs.Pieces.{flat_same, length_part}
 use Rattle.decode.specs.declared.Range.{Range}
 use Rattle.decode.specs.Decode.{Ranges, value_of}
 use Rattle.colour.specs.Colour.{colour_row}
@@ -28,7 +28,7 @@ rows_alike : (ts : List Tri) (row row' : ℕ → List Float) → ((i : ℕ) → 
 unfolding corners
 rows_alike ts row row' h =
     ap (λ (xs : List Float). record { count = length ts; numbers = xs })
-    (flat-same (corners row) (corners row') ts (λ t. rw (h t.a, h t.b, h t.c)))
+    (flat_same (corners row) (corners row') ts (λ t. rw (h t.a, h t.b, h t.c)))
 
 module _ (flag : Meaning) (R Q : Ranges) (n : ℕ) (alike : (k : ℕ) → k < 2 + n → R k ≡ Q k) where
   decoded_alike : (k : ℕ) (xs : List ℕ) → k + length xs ≤ 2 + n → decoded R k xs ≡ decoded Q k xs

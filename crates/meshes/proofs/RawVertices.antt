@@ -18,7 +18,7 @@ use Rattle.records.specs.declared.shape.Kind.TheVariants.{Four, Five}
 use Rattle.records.specs.Format.{sum, numbers, Meaning, Format, format_by, format, readings, raw_reading}
 use Rattle.records.proofs.Readings.{readings_none, readings_some, sum-append, sum-replicate}
 use Rattle.records.proofs.Counts.{same_next, same_none, vertex_more}
-use Rattle.meshes.proofs.Parts.{joined-first}
+use Rattle.meshes.proofs.Parts.{joined_first}
 
 -- ---- records that all have the same widths
 
@@ -35,7 +35,7 @@ module _ (F : Format) (ws : List ℕ) (same : (started : Bool) (x : ℕ) → F.m
       let k : ℕ = length (drop bits b) / bits in
       let e : length b / bits ≡ suc k = rw (div-eq-sub-div (omega arith) h, length-drop, add-one) in
       ap (λ (m : ℕ). joined m (records b)) e
-      ∙ joined-first k (records b)
+      ∙ joined_first k (records b)
       ∙ ap (λ (m : ℕ). numbers (F.first ∷ ws) (drop m b) ++ joined k (λ (i : ℕ). records b (suc i))) (zero-mul bits)
       ∙ ap (λ (r : List ℕ). numbers (F.first ∷ ws) b ++ r)
       (joined_same k _ _ (λ i l. ap (numbers (F.first ∷ ws)) (ap (λ (m : ℕ). drop m b) (suc-mul i bits ∙ add_comm (i * bits) bits) ∙ sym (drop-drop (i * bits) bits b))))
@@ -53,9 +53,9 @@ module _ (F : Format) (ws : List ℕ) (same : (started : Bool) (x : ℕ) → F.m
       ∙ ap (λ (r : List ℕ). numbers (F.first ∷ ws) b ++ r) rest
       ∙ sym (one_more b g)
 
-  same-readings : (k : ℕ) (started : Bool) (b : List ℕ) → length b ≤ k → readings F k started b ≡ joined (length b / bits) (records b)
-  same-readings zero started b h = none_here zero started b (omega arith)
-  same-readings (suc k) started b h = by (dec_le bits (length b)) (λ g. same-readings k true (drop bits b) (rw length-drop (omega arith)))
+  same_readings : (k : ℕ) (started : Bool) (b : List ℕ) → length b ≤ k → readings F k started b ≡ joined (length b / bits) (records b)
+  same_readings zero started b h = none_here zero started b (omega arith)
+  same_readings (suc k) started b h = by (dec_le bits (length b)) (λ g. same_readings k true (drop bits b) (rw length-drop (omega arith)))
     where
       by : Dec (bits ≤ length b)
           → (bits ≤ length b → readings F k true (drop bits b) ≡ joined (length (drop bits b) / bits) (records (drop bits b)))
@@ -63,10 +63,10 @@ module _ (F : Format) (ws : List ℕ) (same : (started : Bool) (x : ℕ) → F.m
       by (yes g) rest = one_here k started b g (rest g)
       by (no g) rest = none_here (suc k) started b (lt_of_not-le g)
 
-  pub same-records : (size : ℕ) → bits ≡ size → (s : List ℕ)
+  pub same_records : (size : ℕ) → bits ≡ size → (s : List ℕ)
       → raw_reading F s ≡ joined (8 * length s / size) (λ (i : ℕ). numbers (F.first ∷ ws) (drop (i * size) (stream s)))
   unfolding raw_reading
-  same-records size e s = rw (← e, ← (length-stream s)) (same-readings (length (stream s)) false (stream s) (omega arith))
+  same_records size e s = rw (← e, ← (length-stream s)) (same_readings (length (stream s)) false (stream s) (omega arith))
 
 -- ---- vertices
 
@@ -85,7 +85,7 @@ module _ (s : List ℕ) (coord comp n : ℕ) where
       raw_reading (format_by meaning Four flag coord comp n) s
       ≡ joined (8 * length s / size) (λ (i : ℕ). numbers (flag ∷ coord ∷ coord ∷ replicate n comp) (drop (i * size) (stream s)))
   raw_type4 meaning flag h =
-      same-records (format_by meaning Four flag coord comp n) (coord ∷ coord ∷ replicate n comp) (vertex_more Four flag coord comp n 2 (λ started x. refl)) h
+      same_records (format_by meaning Four flag coord comp n) (coord ∷ coord ∷ replicate n comp) (vertex_more Four flag coord comp n 2 (λ started x. refl)) h
       (vertex_size flag coord comp n) (vertex_bits flag 2 coord n comp) s
 
   -- x, y and components
@@ -94,5 +94,5 @@ module _ (s : List ℕ) (coord comp n : ℕ) where
       raw_reading (format Five coord coord comp n) s
       ≡ joined (8 * length s / size) (λ (i : ℕ). numbers (coord ∷ coord ∷ replicate n comp) (drop (i * size) (stream s)))
   raw_type5 h =
-      same-records (format Five coord coord comp n) (coord ∷ replicate n comp) (vertex_more Five coord coord comp n 1 (λ started x. refl)) h
+      same_records (format Five coord coord comp n) (coord ∷ replicate n comp) (vertex_more Five coord coord comp n 1 (λ started x. refl)) h
       (vertex_size 0 coord comp n) (vertex_bits coord 1 coord n comp ∙ omega arith) s

@@ -19,9 +19,9 @@ use Rattle.records.proofs.Readings.{sum-append, sum-replicate, next_fits, next_n
 use Rattle.rules.specs.Patches.{Table, mesh}
 use Rattle.rules.specs.Meshes.{piece, pieces, patch_mesh}
 use Rattle.rules.proofs.Meshes.{pieces_none}
-use Rattle.rules.proofs.RawReading.{there, patch_format, pieces-reading}
+use Rattle.rules.proofs.RawReading.{there, patch_format, pieces_reading}
 use Rattle.meshes.specs.Decoded.{by_decode}
-use Rattle.meshes.proofs.Standing.{reads-decode, body_numbers, in_bits}
+use Rattle.meshes.proofs.Standing.{reads_decode, body_numbers, in_bits}
 use Rattle.meshes.proofs.PatchRecords.{RowPatch, highest, record_places, Records, row_pieces, records_of}
 
 module _ (flag : Meaning) (own first coord comp n : ℕ) where
@@ -49,10 +49,10 @@ module _ (flag : Meaning) (own first coord comp n : ℕ) where
   more_allowed none (suc f) h = absurd (omega arith)
   more_allowed (some b) (suc f) h = rw (eqb-suc-zero f, le-leb (suc f) 3 h)
 
-  more-ends : {P : Type 0} (b : Option P) (f : ℕ) → highest b < f → widths_of coord comp n (patch_shape own (there b) f) ≡ none
-  more-ends b zero h = absurd (omega arith)
-  more-ends none (suc f) h = rw (eqb-suc-zero f)
-  more-ends (some b) (suc f) h = rw (eqb-suc-zero f, lt-leb (suc f) 3 h)
+  more_ends : {P : Type 0} (b : Option P) (f : ℕ) → highest b < f → widths_of coord comp n (patch_shape own (there b) f) ≡ none
+  more_ends b zero h = absurd (omega arith)
+  more_ends none (suc f) h = rw (eqb-suc-zero f)
+  more_ends (some b) (suc f) h = rw (eqb-suc-zero f, lt-leb (suc f) 3 h)
 
   module _ (some_bits : 1 ≤ first) (s : List ℕ) where
     -- the raw numbers from bit p on, once there is a patch or not
@@ -78,7 +78,7 @@ module _ (flag : Meaning) (own first coord comp n : ℕ) where
         let k : ℕ = length (stream s) in
         rw (
           readings_enough F k (suc k) (there b) bits some_bits (left p) (omega (arith, left p)),
-          pieces-reading flag own first coord comp n k (there b) bits (after f) m stands,
+          pieces_reading flag own first coord comp n k (there b) bits (after f) m stands,
           ← e,
           drop-drop first p (stream s),
           drop-drop (first + sum (after f)) p (stream s),
@@ -102,10 +102,10 @@ module _ (flag : Meaning) (own first coord comp n : ℕ) where
         cut ws e (yes a) =
             let same : after f ≡ ws = some-injective _ _ (sym (more_allowed b f a) ∙ e) in
             rw (← same) (omega (arith, h a, sum-after f, length_from s p within))
-        cut ws e (no a) = absurd (none-ne-some ws (sym (more-ends b _ (lt_of_not-le a)) ∙ e))
+        cut ws e (no a) = absurd (none-ne-some ws (sym (more_ends b _ (lt_of_not-le a)) ∙ e))
 
     ends_there : (T : Table) (R : Ranges) (b : Option RowPatch) (p : ℕ) → pieces 0 flag own n (rest (there b) p) ≡ []
-        → mesh T b (row_pieces (reads-decode flag R) own n (rest (there b) p)) ≡ []
+        → mesh T b (row_pieces (reads_decode flag R) own n (rest (there b) p)) ≡ []
     unfolding mesh
     ends_there T R b p e = rw e
 
@@ -114,6 +114,6 @@ module _ (flag : Meaning) (own first coord comp n : ℕ) where
         (patch_mesh T own (by_decode flag R) n (raw_reading F s))
     unfolding raw_reading
     records_of_bytes T R =
-        records_of (reads-decode flag R) own n T first coord comp (8 * length s) (λ (p : ℕ). flag (field_at s p first)) (bit_numbers s R) rest
+        records_of (reads_decode flag R) own n T first coord comp (8 * length s) (λ (p : ℕ). flag (field_at s p first)) (bit_numbers s R) rest
         (λ b p f e a h. (body p f, takes b p f e a h, in_bits s coord comp (2 * points_after own f) (colours_after f * n) (p + first) flag R))
         (λ b p within h. ends_there T R b p (stops b p within h))

@@ -8,7 +8,7 @@ use lib.ListN.{length, get_or, drop, replicate}
 use lib.Seq.{drop-drop, get_or-drop, take_at, drop_at}
 use lib.Ieee.{Float, nan}
 use Rattle.lists.specs.Lists.{joined, part, flat}
-use Rattle.lists.proofs.Pieces.{joined_same, length_singles, length_part, part_then, flat-joined}
+use Rattle.lists.proofs.Pieces.{joined_same, length_singles, length_part, part_then, flat_joined}
 use Rattle.bits.specs.Bits.{stream, field_at}
 use Rattle.decode.specs.Decode.{Ranges, value_of}
 use Rattle.colour.specs.Colour.{colour_row}
@@ -30,12 +30,12 @@ pub record SourceReads {A : Type 0} (S : Source A Float) : Type 0 where
   pub colour_sized : (n : ℕ) (xs : List A) → length xs ≡ n → length (S.colour xs) ≡ 8 + n
 
 module _ (R : Ranges) where
-  decoded-append : (k : ℕ) (xs ys : List ℕ) → decoded R k (xs ++ ys) ≡ decoded R k xs ++ decoded R (k + length xs) ys
+  decoded_append : (k : ℕ) (xs ys : List ℕ) → decoded R k (xs ++ ys) ≡ decoded R k xs ++ decoded R (k + length xs) ys
   unfolding decoded
-  decoded-append k [] ys = rw add-zero
-  decoded-append k (x ∷ xs) ys =
+  decoded_append k [] ys = rw add-zero
+  decoded_append k (x ∷ xs) ys =
       let e : k + 1 + length xs ≡ k + suc (length xs) = omega arith in
-      rw (decoded-append (k + 1) xs ys, e)
+      rw (decoded_append (k + 1) xs ys, e)
 
   length-decoded : (k : ℕ) (xs : List ℕ) → length (decoded R k xs) ≡ length xs
   unfolding decoded
@@ -47,12 +47,12 @@ module _ (R : Ranges) where
   unfolding joined
   decoded_singles k zero g = unfold decoded in refl
   decoded_singles k (suc n) g =
-      decoded-append k (joined n (λ (j : ℕ). g j ∷ [])) (g n ∷ [])
+      decoded_append k (joined n (λ (j : ℕ). g j ∷ [])) (g n ∷ [])
       ∙ rw (decoded_singles k n g, length_singles g n) (unfold decoded in refl)
 
-pub reads-decode : (flag : Meaning) (R : Ranges) → SourceReads (by_decode flag R)
+pub reads_decode : (flag : Meaning) (R : Ranges) → SourceReads (by_decode flag R)
 unfolding part joined decoded
-reads-decode flag R =
+reads_decode flag R =
     record {
       value = λ kind x. value_of x (R kind).scale (R kind).min;
       point_of = λ xs from. refl;
@@ -81,11 +81,11 @@ pub record Stands {A : Type 0} {S : Source A Float} (reads : SourceReads S) (N :
       → reads.value kind (get_or xs i S.missing) ≡ N comp kind q
 
 -- what is made of groups, one after the other
-flat-groups : {A B : Type 0} (d : A) (f : List A → List B) (xs : List A) (from k m : ℕ)
+flat_groups : {A B : Type 0} (d : A) (f : List A → List B) (xs : List A) (from k m : ℕ)
     → flat f (groups d xs from k m) ≡ joined k (λ (i : ℕ). f (part d xs (from + i * m) m))
 unfolding groups flat
-flat-groups d f xs from k m =
-    flat-joined f k (λ (i : ℕ). part d xs (from + i * m) m ∷ [])
+flat_groups d f xs from k m =
+    flat_joined f k (λ (i : ℕ). part d xs (from + i * m) m ∷ [])
     ∙ joined_same k _ _ (λ i h. append-nil (f (part d xs (from + i * m) m)))
 
 module _ {A : Type 0} {S : Source A Float} (reads : SourceReads S) (N : Numbers) (xs : List A) (coord comp : ℕ) where
@@ -122,7 +122,7 @@ module _ {A : Type 0} {S : Source A Float} (reads : SourceReads S) (N : Numbers)
     pub points_are : flat S.point (groups S.missing xs 0 k 2) ≡ points_at N coord k p
     unfolding points_at
     points_are =
-        flat-groups S.missing S.point xs 0 k 2
+        flat_groups S.missing S.point xs 0 k 2
         ∙ joined_same k _ _ (λ i l.
         point_is (0 + i * 2) (p + i * (2 * coord))
         (h.coords_are 0 (i * 2) _ _ (omega arith) (omega arith) (omega arith))
@@ -131,7 +131,7 @@ module _ {A : Type 0} {S : Source A Float} (reads : SourceReads S) (N : Numbers)
     pub colours_are : flat S.colour (groups S.missing xs (2 * k) m n) ≡ colours_at N comp n m (p + k * (2 * coord))
     unfolding colours_at
     colours_are =
-        flat-groups S.missing S.colour xs (2 * k) m n
+        flat_groups S.missing S.colour xs (2 * k) m n
         ∙ joined_same m _ _ (λ i l.
         colour_is n (2 * k + i * n) (p + k * (2 * coord) + i * (n * comp))
         (λ j b. h.comps_are (2 + j) (i * n + j) _ _ (omega (arith, mul-le-mul_right n l, suc-mul i n)) (omega arith) (omega arith)))
@@ -190,8 +190,8 @@ module _ (s : List ℕ) where
     abbrev pub body_numbers : List ℕ
     body_numbers = numbers (replicate coords coord ++ replicate comps comp) (drop p (stream s))
 
-    pub in_bits : (flag : Meaning) (R : Ranges) → Stands (reads-decode flag R) (bit_numbers s R) body_numbers coord comp coords comps 0 p
-    unfolding bit_numbers reads-decode
+    pub in_bits : (flag : Meaning) (R : Ranges) → Stands (reads_decode flag R) (bit_numbers s R) body_numbers coord comp coords comps 0 p
+    unfolding bit_numbers reads_decode
     in_bits flag R =
         record {
           coords_are = λ kind j i q l e f.

@@ -21,12 +21,12 @@ use Rattle.rules.specs.Triangles.{Tri, Rule, triangles}
 use Rattle.rules.specs.Lattice.{lattice}
 use Rattle.rules.proofs.Properties.{CornersBelow}
 use Rattle.rules.specs.Meshes.{Source, Finished, finished, flags, vertex4, vertex5, vertex_row, type4_mesh, type5_mesh}
-use Rattle.rules.proofs.Triangles.{triangles-within, corners-same}
-use Rattle.rules.proofs.Lattice.{lattice-within}
+use Rattle.rules.proofs.Triangles.{triangles_within, corners_same}
+use Rattle.rules.proofs.Lattice.{lattice_within}
 use Rattle.meshes.specs.Decoded.{by_decode, as_listed}
 use Rattle.meshes.proofs.Parts.{element_of_piece, count_pieces}
 use Rattle.meshes.proofs.RawVertices.{vertex_size, raw_type4, raw_type5}
-use Rattle.meshes.proofs.Standing.{SourceReads, reads-decode, reads_listed, Stands, vertex_is, stands_moved, in_list, in_bits}
+use Rattle.meshes.proofs.Standing.{SourceReads, reads_decode, reads_listed, Stands, vertex_is, stands_moved, in_list, in_bits}
 
 -- ---- a mesh by places: flag and N have the flag and the numbers at a place
 
@@ -43,10 +43,10 @@ lattice_form row_length N lead coord comp n limit =
 -- rows need to agree on the vertices that are there
 agree : (total : ℕ) (ts : List Tri) {row row' : ℕ → List Float} → All (CornersBelow total) ts → ((i : ℕ) → i < total → row i ≡ row' i)
     → finished ts row ≡ finished ts row'
-agree total ts {row} {row'} w h = ap (λ (xs : List Float). record { count = length ts; numbers = xs }) (corners-same total row row' ts w h)
+agree total ts {row} {row'} w h = ap (λ (xs : List Float). record { count = length ts; numbers = xs }) (corners_same total row row' ts w h)
 
-flagged-within : (r : Rule) (total : ℕ) (flag : ℕ → ℕ) → All (CornersBelow total) (triangles r (joined total (λ (i : ℕ). flag i ∷ [])))
-flagged-within r total flag = rw (length_singles flag total) at (triangles-within r (joined total (λ (i : ℕ). flag i ∷ [])))
+flagged_within : (r : Rule) (total : ℕ) (flag : ℕ → ℕ) → All (CornersBelow total) (triangles r (joined total (λ (i : ℕ). flag i ∷ [])))
+flagged_within r total flag = rw (length_singles flag total) at (triangles_within r (joined total (λ (i : ℕ). flag i ∷ [])))
 
 -- a list whose vertices stand at the places makes that mesh
 module _ {A : Type 0} {S : Source A Float} (reads : SourceReads S) (N : Numbers) (xs : List A) (lead coord comp n limit : ℕ) where
@@ -65,7 +65,7 @@ module _ {A : Type 0} {S : Source A Float} (reads : SourceReads S) (N : Numbers)
       let fs : flags S.missing S.flag n xs ≡ joined total (λ (i : ℕ). flag (i * size) ∷ []) =
       rw count (joined_same total _ _ (λ i k. ap (λ (f : ℕ). f ∷ []) (flagged i k))) in
       ap (λ (fs : List ℕ). finished (triangles r fs) (λ (i : ℕ). vertex_row S (vertex4 S.missing n xs i))) fs
-      ∙ agree total _ (flagged-within r total (λ (i : ℕ). flag (i * size))) (λ i k. vertex_is reads N xs coord comp n _ _ (stand i k))
+      ∙ agree total _ (flagged_within r total (λ (i : ℕ). flag (i * size))) (λ i k. vertex_is reads N xs coord comp n _ _ (stand i k))
 
   lattice_form_lem : (row_length : ℕ) → length xs / (n + 2) ≡ total
       → ((i : ℕ) → i < total → Stands reads N xs coord comp 2 n (i * (n + 2) + 0) (i * size + lead))
@@ -73,7 +73,7 @@ module _ {A : Type 0} {S : Source A Float} (reads : SourceReads S) (N : Numbers)
   unfolding type5_mesh vertex5
   lattice_form_lem row_length count stand =
       ap (λ (k : ℕ). finished (lattice k row_length) (λ (i : ℕ). vertex_row S (vertex5 S.missing n xs i))) count
-      ∙ agree total _ (lattice-within total row_length)
+      ∙ agree total _ (lattice_within total row_length)
       (λ i k. rw (← (add-zero (i * (n + 2)))) (vertex_is reads N xs coord comp n _ _ (stand i k)))
 
 -- ---- bytes
@@ -92,7 +92,7 @@ module _ (s : List ℕ) (meaning : Meaning) (R : Ranges) (coord comp n lead m ea
   count = count_pieces _ each _ (λ i. length-numbers widths _ ∙ sized) (omega arith)
 
   stand : (i : ℕ) → i < 8 * length s / vertex_size lead coord comp n
-      → Stands (reads-decode meaning R) (bit_numbers s R) records coord comp 2 n (i * each + m) (i * vertex_size lead coord comp n + lead)
+      → Stands (reads_decode meaning R) (bit_numbers s R) records coord comp 2 n (i * each + m) (i * vertex_size lead coord comp n + lead)
   stand i h =
       let place : ℕ = i * vertex_size lead coord comp n in
       stands_moved (in_bits s coord comp 2 n (place + lead) meaning R)
@@ -114,7 +114,7 @@ module _ (s : List ℕ) (R : Ranges) (coord comp n : ℕ) where
       let after : (b : List ℕ) (j : ℕ) → get_or (numbers (flag ∷ body) b) (1 + j) 0 ≡ get_or (numbers body (drop flag b)) j 0 = λ b j. rw (one-add j) in
       let enough : 1 + (2 + n) ≤ n + 3 = omega arith in
       rw (raw_type4 s coord comp n meaning flag some_bits)
-      (free_form_lem (reads-decode meaning R) (bit_numbers s R) _ flag coord comp n (8 * length s) r (λ (p : ℕ). meaning (field_at s p flag))
+      (free_form_lem (reads_decode meaning R) (bit_numbers s R) _ flag coord comp n (8 * length s) r (λ (p : ℕ). meaning (field_at s p flag))
       (count s meaning R coord comp n flag 1 (n + 3) (flag ∷ body) sized enough after)
       (λ i h. ap meaning
       (rw (← (add-zero (i * (n + 3)))) (element s meaning R coord comp n flag 1 (n + 3) (flag ∷ body) sized enough after i 0 h (omega arith))))
@@ -128,7 +128,7 @@ module _ (s : List ℕ) (R : Ranges) (coord comp n : ℕ) where
       let after : (b : List ℕ) (j : ℕ) → get_or (numbers body b) (0 + j) 0 ≡ get_or (numbers body (drop 0 b)) j 0 = λ b j. rw (zero-add j) in
       let enough : 0 + (2 + n) ≤ n + 2 = omega arith in
       rw (raw_type5 s coord comp n some_bits)
-      (lattice_form_lem (reads-decode whole_number R) (bit_numbers s R) _ 0 coord comp n (8 * length s) row_length
+      (lattice_form_lem (reads_decode whole_number R) (bit_numbers s R) _ 0 coord comp n (8 * length s) row_length
       (count s whole_number R coord comp n 0 0 (n + 2) body sized enough after)
       (stand s whole_number R coord comp n 0 0 (n + 2) body sized enough after))
 

@@ -18,17 +18,17 @@ use Rattle.meshes.specs.Decoded.{as_listed}
 use Rattle.meshes.specs.Outcomes.{parsed, parse4, built, build4}
 
 -- two rules that give the flags the same triangles make the same mesh
-by-triangles : {A B : Type 0} (rule rule' : FlagRule) (S : Source A B) (n : ℕ) (xs : List A)
+by_triangles : {A B : Type 0} (rule rule' : FlagRule) (S : Source A B) (n : ℕ) (xs : List A)
     → rule (flags S.missing S.flag n xs) ≡ rule' (flags S.missing S.flag n xs) → type4_mesh rule S n xs ≡ type4_mesh rule' S n xs
 unfolding type4_mesh
-by-triangles rule rule' S n xs e = rw e
+by_triangles rule rule' S n xs e = rw e
 
 -- ---- from bytes
 
 pub type4_ported : (s : List ℕ) (coord comp flag : ℕ) (entries : List Float) (n room : ℕ)
     → parse4 whole_number (binary_reader none 0) s coord comp flag entries n room ≡ parse4 whole_number (triangles triangle_before) s coord comp flag entries n room
 unfolding parsed
-type4_ported s coord comp flag entries n room = rw (by-triangles (binary_reader none 0) (triangles triangle_before) _ n _ (binary_reader_lem _))
+type4_ported s coord comp flag entries n room = rw (by_triangles (binary_reader none 0) (triangles triangle_before) _ n _ (binary_reader_lem _))
 
 -- ---- from a list
 
@@ -38,7 +38,7 @@ module _ (vs : List Float) (n : ℕ) where
 
   by_rules : (rule rule' : FlagRule) (room : ℕ) → rule fs ≡ rule' fs → build4 rule vs n room ≡ build4 rule' vs n room
   unfolding built
-  by_rules rule rule' room e = rw (by-triangles rule rule' as_listed n vs e)
+  by_rules rule rule' room e = rw (by_triangles rule rule' as_listed n vs e)
 
   pub list4_ported : (room : ℕ) → build4 (list_builder [] 0) vs n room ≡ build4 (triangles last_three) vs n room
   list4_ported room = by_rules (list_builder [] 0) (triangles last_three) room (list_builder_lem fs)

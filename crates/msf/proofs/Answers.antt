@@ -33,7 +33,7 @@ use Rattle.rules.proofs.Rows.{length-patch_mesh}
 use Rattle.rules.proofs.Tables.{sides_fit}
 use Rattle.meshes.specs.Decoded.{by_decode}
 use Rattle.meshes.specs.Outcomes.{Stream, raw_of, decode_of, parsed, ported_reader}
-use Rattle.meshes.proofs.Standing.{reads-decode}
+use Rattle.meshes.proofs.Standing.{reads_decode}
 use Rattle.triangles.proofs.Writing.{length-mesh}
 use Rattle.msf.specs.Inner.Kinds.{stride_of}
 use Rattle.msf.specs.File.{most_answer, components, row_length, answer_of}
@@ -85,8 +85,8 @@ module _ {A : Type 0} {entry exit : List A} where
 module _ (R : Ranges) (n : ℕ) (xs : List ℕ) where
   length_vertex : (ys : List ℕ) → length ys ≡ n + 2 → length (vertex_row (by_decode whole_number R) ys) ≡ 10 + n
   length_vertex ys e =
-      let point = (reads-decode whole_number R).point_sized (take 2 ys) (simp length-take (omega arith)) in
-      let colour = (reads-decode whole_number R).colour_sized n (drop 2 ys) (simp length-drop (omega arith)) in
+      let point = (reads_decode whole_number R).point_sized (take 2 ys) (simp length-take (omega arith)) in
+      let colour = (reads_decode whole_number R).colour_sized n (drop 2 ys) (simp length-drop (omega arith)) in
       omega (arith, length-append ((by_decode whole_number R).point (take 2 ys)) ((by_decode whole_number R).colour (drop 2 ys)))
 
   length_type4 : (rule : FlagRule) → length (type4_mesh rule (by_decode whole_number R) n xs).numbers ≡ (type4_mesh rule (by_decode whole_number R) n xs).count * (3 * (10 + n))
@@ -106,7 +106,7 @@ module _ (R : Ranges) (n : ℕ) (xs : List ℕ) where
   length-patches : (own : ℕ) → All (Fits (4 + own)) sides
       → length (patch_mesh sides own (by_decode whole_number R) n xs).numbers ≡ (patch_mesh sides own (by_decode whole_number R) n xs).count * ((4 + own) * 2 + 4 * (8 + n))
   length-patches own fit =
-      length-patch_mesh (by_decode whole_number R) 2 (8 + n) n (reads-decode whole_number R).point_sized ((reads-decode whole_number R).colour_sized n) sides own fit xs
+      length-patch_mesh (by_decode whole_number R) 2 (8 + n) n (reads_decode whole_number R).point_sized ((reads_decode whole_number R).colour_sized n) sides own fit xs
 
 -- ---- accepted meshes
 

@@ -18,11 +18,11 @@ use Rattle.msf.specs.Text.{glyph, hex, decimal_to, decimal, float_text}
 -- ---- decimal
 
 -- how many digits there may be does not matter where they are enough
-decimal-same : (j k v : ℕ) → v < j → v < k → decimal_to j v ≡ decimal_to k v
+decimal_same : (j k v : ℕ) → v < j → v < k → decimal_to j v ≡ decimal_to k v
 unfolding decimal_to
-decimal-same zero k v h g = absurd (omega arith)
-decimal-same (suc j) zero v h g = absurd (omega arith)
-decimal-same (suc j) (suc k) v h g = go (ltb v 10) refl (λ l. decimal-same j k (v / 10) (omega arith) (omega arith))
+decimal_same zero k v h g = absurd (omega arith)
+decimal_same (suc j) zero v h g = absurd (omega arith)
+decimal_same (suc j) (suc k) v h g = go (ltb v 10) refl (λ l. decimal_same j k (v / 10) (omega arith) (omega arith))
   where
     -- with so many digits before the last
     digits : Bool → List ℕ → List ℕ
@@ -36,9 +36,9 @@ pub decimal_one : (v : ℕ) → v < 10 → decimal v ≡ glyph v ∷ []
 unfolding decimal decimal_to
 decimal_one v h = simp (lt-ltb v 10 h)
 
-pub decimal-more : (v : ℕ) → 10 ≤ v → decimal v ≡ decimal (v / 10) ++ (glyph (v % 10) ∷ [])
+pub decimal_more : (v : ℕ) → 10 ≤ v → decimal v ≡ decimal (v / 10) ++ (glyph (v % 10) ∷ [])
 unfolding decimal decimal_to
-decimal-more v h = simp (le-ltb v 10 h) (rw (decimal-same v (suc (v / 10)) (v / 10) (omega arith) (omega arith)))
+decimal_more v h = simp (le-ltb v 10 h) (rw (decimal_same v (suc (v / 10)) (v / 10) (omega arith) (omega arith)))
 
 -- ---- base 16, the lowest digit first
 

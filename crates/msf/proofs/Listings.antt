@@ -94,10 +94,10 @@ module _ (kind : Kind) (s : List ℕ) {entry exit : List Float} {r : Answer} (d 
           room = room;
         }
 
-    pub mesh-listing : line (decimal (type_of kind) ∷ decimal count ∷ []) ++ mesh_lines kind (components s) exit count
+    pub mesh_listing : line (decimal (type_of kind) ∷ decimal count ∷ []) ++ mesh_lines kind (components s) exit count
         ≡ listing kind (components s) (answer_of kind s)
     unfolding listing
-    mesh-listing =
+    mesh_listing =
         rw begun.is
         (ap (λ (l : List ℕ). line (decimal (type_of kind) ∷ decimal count ∷ []) ++ l)
         (mesh_begin begun.begins kind (components s) count (omega (arith, sized.long))))

@@ -25,10 +25,10 @@ module _ (points n : ℕ) (xs : List Float) where
   unfolding patches_lines
   patches_none l at h = written_start l at _ h
 
-  pub patches-more : (i : ℕ) {l o o' : List ℕ} {at p q r : ℕ} → p ≡ i * (2 * points + 4 * (8 + n)) → Written l o at (patches_lines points n xs i) q
+  pub patches_more : (i : ℕ) {l o o' : List ℕ} {at p q r : ℕ} → p ≡ i * (2 * points + 4 * (8 + n)) → Written l o at (patches_lines points n xs i) q
       → Written o o' q (patch_lines points n xs p) r → Written l o' at (patches_lines points n xs (i + 1)) r
   unfolding patches_lines
-  patches-more i e w v = written_more i (λ (j : ℕ). patch_lines points n xs (j * (2 * points + 4 * (8 + n)))) w (rw e at v)
+  patches_more i e w v = written_more i (λ (j : ℕ). patch_lines points n xs (j * (2 * points + 4 * (8 + n)))) w (rw e at v)
 
 -- a vertex is x, y and a colour
 pub vertex_size_lem : (n : ℕ) → 2 + (8 + n) ≡ 10 + n

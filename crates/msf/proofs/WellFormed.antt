@@ -11,7 +11,7 @@ use lib.ListN.{length, get_or}
 use Rattle.answers.specs.Outcome.{number_of}
 use Rattle.answers.specs.declared.Refusal.TheVariants.{File}
 use Rattle.decode.specs.Inner.Reading.{big_endian_or0}
-use Rattle.decode.proofs.BigEndian.{number-there}
+use Rattle.decode.proofs.BigEndian.{number_there}
 use Rattle.records.specs.declared.shape.Kind.{Kind}
 use Rattle.msf.specs.Listing.{refused_line, listing}
 use Rattle.msf.specs.File.{most_file, mark, version, components, data_at, kind_of, well_formed, answer_of, listing_of_kind, file_listing}
@@ -28,10 +28,10 @@ module _ (s : List ℕ) where
 
     module _ (enough : 13 ≤ length s) where
       mark_read : big_endian_or0 s 0 3 ≡ mark s
-      mark_read = number-there s 0 3 (omega arith) (omega arith)
+      mark_read = number_there s 0 3 (omega arith) (omega arith)
 
       version_read : big_endian_or0 s 3 2 ≡ version s
-      version_read = number-there s 3 2 (omega arith) (omega arith)
+      version_read = number_there s 3 2 (omega arith) (omega arith)
 
       pub wrong_mark : (big_endian_or0 s 0 3 ≡ 5067590 → ⊥) → false ≡ well_formed s
       unfolding well_formed

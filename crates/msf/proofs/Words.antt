@@ -10,7 +10,7 @@ use lib.Seq.{take_at, drop_at, get_or-take, get_or-drop}
 use lib.Ieee.{Float, nan, eq}
 use Rattle.lists.specs.Lists.{joined, part, flat}
 use Rattle.lists.specs.Writing.{Written}
-use Rattle.lists.proofs.Pieces.{joined-more, part-take, part_then, length_part, flat-more, flat_append}
+use Rattle.lists.proofs.Pieces.{joined_more, part_take, part_then, length_part, flat_more, flat_append}
 use Rattle.lists.proofs.Writing.{written_none, written_then}
 use Rattle.decode.specs.Floats.{float1}
 use Rattle.msf.specs.Text.{decimal, float_text, glyph}
@@ -31,7 +31,7 @@ unfolding part joined
 part_one d l from = rw add-zero
 
 get_d_part : {A : Type 0} (d : A) (l : List A) (from k i : ℕ) → from + k ≤ length l → i < k → get_or (part d l from k) i d ≡ get_or l (from + i) d
-get_d_part d l from k i h g = rw (part-take d l from k h, get_or-take k (drop from l) i d g, get_or-drop)
+get_d_part d l from k i h g = rw (part_take d l from k h, get_or-take k (drop from l) i d g, get_or-drop)
 
 -- ---- numbers with spaces before them
 
@@ -46,7 +46,7 @@ words_none xs from l at h = written_none l at h
 one_more : (xs : List Float) (from i : ℕ) → spaced (words xs from (i + 1)) ≡ spaced (words xs from i) ++ (32 ∷ float_text (get_or xs (from + i) nan))
 unfolding spaced part
 one_more xs from i =
-    rw (joined-more, map-append) (flat-more (λ (w : List ℕ). 32 ∷ w) (map float_text (joined i (λ (j : ℕ). get_or xs (from + j) nan ∷ []))) (float_text (get_or xs (from + i) nan)))
+    rw (joined_more, map-append) (flat_more (λ (w : List ℕ). 32 ∷ w) (map float_text (joined i (λ (j : ℕ). get_or xs (from + j) nan ∷ []))) (float_text (get_or xs (from + i) nan)))
 
 pub words_more : (xs : List Float) (from i : ℕ) {l o o' o'' : List ℕ} {at p q r : ℕ} → Written l o at (spaced (words xs from i)) p
     → Written o o' p (32 ∷ []) q → Written o' o'' q (float_text (get_or xs (from + i) nan)) r → Written l o'' at (spaced (words xs from (i + 1))) r
@@ -54,21 +54,21 @@ words_more xs from i w s v = rw one_more (written_then w (written_then s v))
 
 -- ---- lines
 
-spaced-append : (a b : List (List ℕ)) → spaced (a ++ b) ≡ spaced a ++ spaced b
+spaced_append : (a b : List (List ℕ)) → spaced (a ++ b) ≡ spaced a ++ spaced b
 unfolding spaced
-spaced-append = flat_append (λ (w : List ℕ). 32 ∷ w)
+spaced_append = flat_append (λ (w : List ℕ). 32 ∷ w)
 
 -- the first number has no space before it
-line-numbers : (xs : List Float) (from k : ℕ) (ws : List (List ℕ)) → from + (1 + k) ≤ length xs
+line_numbers : (xs : List Float) (from k : ℕ) (ws : List (List ℕ)) → from + (1 + k) ≤ length xs
     → line (words xs from (1 + k) ++ ws) ≡ (float_text (get_or xs from nan) ++ spaced (words xs (from + 1) k)) ++ (spaced ws ++ (10 ∷ []))
 unfolding line
-line-numbers xs from k ws h =
-    rw (part_then nan xs from 1 k, part_one, spaced-append (words xs (from + 1) k) ws) (simp append_assoc)
+line_numbers xs from k ws h =
+    rw (part_then nan xs from 1 k, part_one, spaced_append (words xs (from + 1) k) ws) (simp append_assoc)
 
 pub point_text : (xs : List Float) (from : ℕ) → from + 2 ≤ length xs
     → point_line (part nan xs from 2) ≡ (float_text (get_or xs from nan) ++ spaced (words xs (from + 1) 1)) ++ (10 ∷ [])
 unfolding point_line spaced flat
-point_text xs from h = rw (← (append-nil (words xs from 2))) (line-numbers xs from 1 [] h)
+point_text xs from h = rw (← (append-nil (words xs from 2))) (line_numbers xs from 1 [] h)
 
 pub row_text : (xs : List Float) (coords n from : ℕ) → from + (coords + (8 + n)) ≤ length xs
     → row_line coords (part nan xs from (coords + (8 + n)))
@@ -81,7 +81,7 @@ row_text xs coords n from h =
     let both : words xs from coords ++ words xs (from + coords) 3 ≡ words xs from (1 + (coords + 2)) =
     sym (rw (part_then nan xs from coords 3, map-append) at (ap (words xs from) (sym first))) in
     rw (take_part nan xs from coords (8 + n), drop-part nan xs from coords (8 + n), front, ← append_assoc, both)
-    (line-numbers xs from (coords + 2) (ink_words (part nan xs (from + coords) (8 + n))) (omega arith))
+    (line_numbers xs from (coords + 2) (ink_words (part nan xs (from + coords) (8 + n))) (omega arith))
 
 -- after the mark: the inks where it is 1, then the components
 pub ink_words_lem : (xs : List Float) (n from : ℕ) → from + (8 + n) ≤ length xs → eq (get_or xs (from + 3) nan) float1 ≡ true

@@ -56,8 +56,8 @@ pub record Bits (xs bits : List ℕ) : Type 0 where
   pub few : length bits ≤ 32 * length xs
   pub below : AllBelow 2 bits
 
-bits-more : (w x : ℕ) (xs bits rest : List ℕ) → w ≤ 32 → bits ≡ bits_of w x ++ rest → Bits xs rest → Bits (x ∷ xs) bits
-bits-more w x xs bits rest h e b =
+bits_more : (w x : ℕ) (xs bits rest : List ℕ) → w ≤ 32 → bits ≡ bits_of w x ++ rest → Bits xs rest → Bits (x ∷ xs) bits
+bits_more w x xs bits rest h e b =
     rw e
     (record {
       few = omega (arith, b.few, length-append (bits_of w x) rest, length-bits w x);
@@ -65,23 +65,23 @@ bits-more w x xs bits rest h e b =
     })
 
 module _ (F : Format) (first : F.first ≤ 32) (more : (started : Bool) (x : ℕ) (due : List ℕ) → F.more started x ≡ some due → All IsFew due) where
-  packed-bits : (started : Bool) (due xs bits : List ℕ) → All IsFew due → packed F started due xs ≡ some bits → Bits xs bits
+  packed_bits : (started : Bool) (due xs bits : List ℕ) → All IsFew due → packed F started due xs ≡ some bits → Bits xs bits
   unfolding packed
-  packed-bits started [] [] bits a e = rw (← some-injective [] bits e) (record { few = omega arith; below = tt })
-  packed-bits started (w ∷ due) [] bits a e = absurd (none-ne-some bits e)
-  packed-bits started [] (x ∷ xs) bits a e =
+  packed_bits started [] [] bits a e = rw (← some-injective [] bits e) (record { few = omega arith; below = tt })
+  packed_bits started (w ∷ due) [] bits a e = absurd (none-ne-some bits e)
+  packed_bits started [] (x ∷ xs) bits a e =
       let r = record_some F started x xs bits e in
       let f = r.2 in
-      bits-more F.first x xs bits f.rest first f.is (packed-bits true r.0 xs f.rest (more started x r.0 r.1) f.after)
-  packed-bits started (w ∷ due) (x ∷ xs) bits a e =
+      bits_more F.first x xs bits f.rest first f.is (packed_bits true r.0 xs f.rest (more started x r.0 r.1) f.after)
+  packed_bits started (w ∷ due) (x ∷ xs) bits a e =
       let f = field_some w x (packed F started due xs) bits e in
-      bits-more w x xs bits f.rest a.0 f.is (packed-bits started due xs f.rest a.1 f.after)
+      bits_more w x xs bits f.rest a.0 f.is (packed_bits started due xs f.rest a.1 f.after)
 
 -- an accepted list takes at most 32 bits for each number
 pub accepted_bits : (kind : Kind) (first coord comp n : ℕ) (xs bits : List ℕ) → first ≤ 32 → coord ≤ 32 → comp ≤ 32
     → packed (format kind first coord comp n) false [] xs ≡ some bits → Bits xs bits
 accepted_bits kind first coord comp n xs bits f c p e =
-    packed-bits (format kind first coord comp n) f
+    packed_bits (format kind first coord comp n) f
     (λ started x due q.
     let r = follows_some coord comp n (shape_of kind started x) due q in
     rw r.3 (all_append IsFew (replicate r.0 coord) (replicate (r.1 * n) comp) (all_replicate IsFew r.0 coord c) (all_replicate IsFew (r.1 * n) comp p)))

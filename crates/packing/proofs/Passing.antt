@@ -16,14 +16,14 @@ use Rattle.packing.specs.Packed.{prefixed, packed}
 use Rattle.records.specs.Inner.Walk.{format_of, record_size}
 use Rattle.packing.specs.Inner.Passes.{FoundIn, record_fits, record_bits, Roomy}
 use Rattle.packing.proofs.Runs.{length-run_bits}
-use Rattle.packing.proofs.Records.{prefixed-nothing, prefixed_twice, guarded, packed_ends, packed_record}
+use Rattle.packing.proofs.Records.{prefixed_nothing, prefixed_twice, guarded, packed_ends, packed_record}
 
 -- the records before index i are whole, and have the bits b
 abbrev pub Reached : Mesh → List ℕ → ℕ → List ℕ → Type 0
 Reached m xs i b = packed (format_of m) false [] xs ≡ prefixed b (packed (format_of m) (ltb 0 i) [] (drop i xs))
 
 pub reached_start : (m : Mesh) (xs : List ℕ) → Reached m xs 0 []
-reached_start m xs = prefixed-nothing (packed (format_of m) false [] xs)
+reached_start m xs = prefixed_nothing (packed (format_of m) false [] xs)
 
 pub reached_end : (m : Mesh) (xs b : List ℕ) (i : ℕ) → Reached m xs i b → i ≡ length xs → packed (format_of m) false [] xs ≡ some b
 unfolding packed

@@ -12,8 +12,8 @@ use Rattle.lists.specs.Writing.{Written}
 use Rattle.lists.proofs.Members.{all_append}
 use Rattle.lists.proofs.Writing.{written_none, written_set, written_then, written_length}
 use Rattle.bits.specs.Bits.{bits_of, stream}
-use Rattle.bits.proofs.Digits.{length-bits, bits-mod, bits-add, bits_join}
-use Rattle.bits.proofs.Streams.{length-stream, stream-append}
+use Rattle.bits.proofs.Digits.{length-bits, bits_mod, bits_add, bits_join}
+use Rattle.bits.proofs.Streams.{length-stream, stream_append}
 use Rattle.packing.specs.declared.put.Waiting.{Waiting}
 use Rattle.packing.specs.Packed.{byte_count, bytes}
 use Rattle.packing.specs.Inner.Passes.{Stored, Put}
@@ -35,9 +35,9 @@ stored_more {l} {o} {at} {k} number h s =
       written = rw (← add_assoc) (written_set (at + k) (number % 256) refl h s.written);
       clean = all_append (λ (x : ℕ). x < 256) s.bytes (number % 256 ∷ []) s.clean (mod-lt number (lit< tt), tt);
       same =
-          rw (stream-append s.bytes (number % 256 ∷ []), append-nil, s.same)
-          (ap (λ (b : List ℕ). bits_of (8 * k) (number / 2 ^ 8) ++ b) (bits-mod 8 (number % 256) number (mod-eq_of_lt (mod-lt number (lit< tt))))
-          ∙ sym (bits-add (8 * k) 8 number)
+          rw (stream_append s.bytes (number % 256 ∷ []), append-nil, s.same)
+          (ap (λ (b : List ℕ). bits_of (8 * k) (number / 2 ^ 8) ++ b) (bits_mod 8 (number % 256) number (mod-eq_of_lt (mod-lt number (lit< tt))))
+          ∙ sym (bits_add (8 * k) 8 number)
           ∙ ap (λ (n : ℕ). bits_of n number) (omega arith));
     }
 
@@ -54,7 +54,7 @@ bits_put count w bits x h f =
     let room : 64 - w ≡ (64 - w - count) + count = omega arith in
     let z : ℕ = bits % 2 ^ (64 - w) in
     let low : z % 2 ^ count ≡ bits % 2 ^ count = ap (λ (k : ℕ). bits % 2 ^ k % 2 ^ count) room ∙ mod-mod-pow bits (64 - w - count) count in
-    rw (shifted bits w (omega arith), or_shifted z w x f, bits_join count w z x f, bits-mod count z bits low)
+    rw (shifted bits w (omega arith), or_shifted z w x f, bits_join count w z x f, bits_mod count z bits low)
 
 -- ---- one put after another
 
@@ -70,7 +70,7 @@ put_then {a} {b} {c} {l} {m} {o} {p} {q} f g =
       clean = all_append (λ (x : ℕ). x < 256) f.bytes g.bytes f.clean g.clean;
       few = g.few;
       same =
-          rw (stream-append f.bytes g.bytes, append_assoc, g.same, ← append_assoc (stream f.bytes), f.same) (append_assoc (bits_of a.count a.bits) p q);
+          rw (stream_append f.bytes g.bytes, append_assoc, g.same, ← append_assoc (stream f.bytes), f.same) (append_assoc (bits_of a.count a.bits) p q);
     }
 
 -- how far a put has come, in bits
@@ -87,8 +87,8 @@ put_place {a} {b} {l} {o} {p} f =
       f.written.after,
     )
 
-pub put-length : {a b : Waiting} {l o p : List ℕ} → Put a b l o p → length o ≡ length l
-put-length f = written_length f.written
+pub put_length : {a b : Waiting} {l o p : List ℕ} → Put a b l o p → length o ≡ length l
+put_length f = written_length f.written
 
 -- ---- a number put
 
@@ -122,7 +122,7 @@ module _ (a : Waiting) (x w : ℕ) (l : List ℕ) (f : x < 2 ^ w) (few : a.count
         few = omega arith;
         same =
             rw s.same
-            (sym (bits-add 32 left wide) ∙ ap (λ (n : ℕ). bits_of n wide) e ∙ bits_put a.count w a.bits x (omega arith) f);
+            (sym (bits_add 32 left wide) ∙ ap (λ (n : ℕ). bits_of n wide) e ∙ bits_put a.count w a.bits x (omega arith) f);
       }
 
 -- ---- the bits that are left

@@ -24,9 +24,9 @@ use Rattle.packing.proofs.Runs.{and_left, and_right, length_run}
 abbrev pub guarded : Bool → List ℕ → Option (List ℕ) → Option (List ℕ)
 guarded test b rest = cond test (prefixed b rest) none
 
-pub prefixed-nothing : (o : Option (List ℕ)) → o ≡ prefixed [] o
-prefixed-nothing none = refl
-prefixed-nothing (some r) = refl
+pub prefixed_nothing : (o : Option (List ℕ)) → o ≡ prefixed [] o
+prefixed_nothing none = refl
+prefixed_nothing (some r) = refl
 
 pub prefixed_twice : (a b : List ℕ) (o : Option (List ℕ)) → prefixed a (prefixed b o) ≡ prefixed (a ++ b) o
 prefixed_twice a b none = refl
@@ -47,7 +47,7 @@ module _ (F : Format) (started : Bool) where
   packed_run : (w : ℕ) (ys due zs : List ℕ)
       → packed F started (replicate (length ys) w ++ due) (ys ++ zs) ≡ guarded (fits w ys) (run_bits w ys) (packed F started due zs)
   unfolding packed field fits flat
-  packed_run w [] due zs = prefixed-nothing (packed F started due zs)
+  packed_run w [] due zs = prefixed_nothing (packed F started due zs)
   packed_run w (y ∷ ys) due zs =
       rw (packed_run w ys due zs) (guarded_then (ltb y (2 ^ w)) (fits w ys) (bits_of w y) (run_bits w ys) (packed F started due zs))
 
@@ -67,10 +67,10 @@ module _ (F : Format) (started : Bool) where
   packed_short (w ∷ due) [] h = refl
   packed_short (w ∷ due) (x ∷ xs) h = rw (packed_short due xs (omega arith)) (guarded_none (ltb x (2 ^ w)) (bits_of w x))
 
-  packed-first : (x : ℕ) (xs due : List ℕ) → F.more started x ≡ some due
+  packed_first : (x : ℕ) (xs due : List ℕ) → F.more started x ≡ some due
       → packed F started [] (x ∷ xs) ≡ guarded (ltb x (2 ^ F.first)) (bits_of F.first x) (packed F true due xs)
   unfolding packed field
-  packed-first x xs due e = rw (e, packed)
+  packed_first x xs due e = rw (e, packed)
 
   pub packed_ends : (xs : List ℕ) (i : ℕ) → i < length xs → F.more started (get_or xs i 0) ≡ none → packed F started [] (drop i xs) ≡ none
   unfolding packed
@@ -91,7 +91,7 @@ module _ (m : Mesh) (started : Bool) (coords comps : ℕ) (xs : List ℕ) (i : �
       ≡ guarded (record_fits m coords comps xs i) (record_bits m coords comps xs i) (packed (format_of m) true [] (drop (i + (1 + coords + comps)) xs))
   packed_record =
       ap (packed (format_of m) started []) (drop-cons xs i 0 h)
-      ∙ packed-first (format_of m) started (get_or xs i 0) (drop (suc i) xs) due e
+      ∙ packed_first (format_of m) started (get_or xs i 0) (drop (suc i) xs) due e
       ∙ by_length (leb (i + (1 + coords + comps)) (length xs)) refl
     where
       due : List ℕ
@@ -140,8 +140,8 @@ pub record Parts (m : Mesh) (coords comps : ℕ) (xs : List ℕ) (i : ℕ) : Typ
   pub coords_fit : fits m.coord (run_at xs (i + 1) coords) ≡ true
   pub comps_fit : fits m.comp (run_at xs (i + 1 + coords) comps) ≡ true
 
-pub fits-parts : (m : Mesh) (coords comps : ℕ) (xs : List ℕ) (i : ℕ) → record_fits m coords comps xs i ≡ true → Parts m coords comps xs i
-fits-parts m coords comps xs i e =
+pub fits_parts : (m : Mesh) (coords comps : ℕ) (xs : List ℕ) (i : ℕ) → record_fits m coords comps xs i ≡ true → Parts m coords comps xs i
+fits_parts m coords comps xs i e =
     let first = ltb (get_or xs i 0) (2 ^ m.first) in
     let ys = fits m.coord (run_at xs (i + 1) coords) in
     let zs = fits m.comp (run_at xs (i + 1 + coords) comps) in

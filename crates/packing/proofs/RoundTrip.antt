@@ -22,7 +22,7 @@ use Rattle.records.proofs.Readings.{sum-append, sum-replicate, next_fits, next_n
 use Rattle.packing.specs.Packed.{bytes, packed}
 use Rattle.packing.specs.Writer.{thin}
 use Rattle.packing.proofs.Shapes.{follows_some}
-use Rattle.packing.proofs.Filling.{filler, length-filler, stream-bytes}
+use Rattle.packing.proofs.Filling.{filler, length-filler, stream_bytes}
 use Rattle.packing.proofs.Accepting.{Field, field_some, record_some}
 
 -- ---- one number, and the rest of a record
@@ -77,20 +77,20 @@ quiet : (F : Format) → Thick F → (k : ℕ) (started : Bool) (b : List ℕ) �
 quiet F th k started b h =
     readings_none F k started b (next_none F started b (λ due e. omega (arith, th started (number (take F.first b)) due e)))
 
-nothing-packed : (F : Format) (started : Bool) (bits : List ℕ) → packed F started [] [] ≡ some bits → [] ≡ bits
+nothing_packed : (F : Format) (started : Bool) (bits : List ℕ) → packed F started [] [] ≡ some bits → [] ≡ bits
 unfolding packed
-nothing-packed F started bits e = some-injective [] bits e
+nothing_packed F started bits e = some-injective [] bits e
 
-readings-packed : (F : Format) → Thick F → (k : ℕ) (started : Bool) (xs bits pad : List ℕ) → packed F started [] xs ≡ some bits → length pad < 8
+readings_packed : (F : Format) → Thick F → (k : ℕ) (started : Bool) (xs bits pad : List ℕ) → packed F started [] xs ≡ some bits → length pad < 8
     → length (bits ++ pad) ≤ k → readings F k started (bits ++ pad) ≡ xs
 unfolding numbers sum
-readings-packed F th zero started [] bits pad e h l = rw (← nothing-packed F started bits e) (quiet F th zero started pad h)
-readings-packed F th (suc k) started [] bits pad e h l = rw (← nothing-packed F started bits e) (quiet F th (suc k) started pad h)
-readings-packed F th zero started (x ∷ xs) bits pad e h l =
+readings_packed F th zero started [] bits pad e h l = rw (← nothing_packed F started bits e) (quiet F th zero started pad h)
+readings_packed F th (suc k) started [] bits pad e h l = rw (← nothing_packed F started bits e) (quiet F th (suc k) started pad h)
+readings_packed F th zero started (x ∷ xs) bits pad e h l =
     let r = record_some F started x xs bits e in
     let b = read_due F true r.0 xs r.2.rest pad r.2.after in
     absurd (omega (arith, l, length-append bits pad, read_length r.2 pad, b.size, th started x r.0 r.1))
-readings-packed F th (suc k) started (x ∷ xs) bits pad e h l =
+readings_packed F th (suc k) started (x ∷ xs) bits pad e h l =
     let r = record_some F started x xs bits e in
     let due = r.0 in
     let f = r.2 in
@@ -103,7 +103,7 @@ readings-packed F th (suc k) started (x ∷ xs) bits pad e h l =
     readings_some F k started (bits ++ pad) (F.first ∷ due) here
     ∙ rw (read_first f pad, read_rest f pad, on)
     (ap (λ (l : List ℕ). x ∷ (numbers due (f.rest ++ pad) ++ l))
-    (readings-packed F th k true b.zs b.rest pad b.left h
+    (readings_packed F th k true b.zs b.rest pad b.left h
     (omega (arith, l, all, length-append b.rest pad, read_length f pad, b.size, th started x due r.1))))
     ∙ ap (λ (l : List ℕ). x ∷ l) (sym b.are)
 
@@ -111,8 +111,8 @@ readings-packed F th (suc k) started (x ∷ xs) bits pad e h l =
 pub read_back : (F : Format) → Thick F → (xs bits : List ℕ) → AllBelow 2 bits → packed F false [] xs ≡ some bits → raw_reading F (bytes bits) ≡ xs
 unfolding raw_reading
 read_back F th xs bits p e =
-    rw (stream-bytes bits p)
-    (readings-packed F th (length (bits ++ filler (length bits))) false xs bits (filler (length bits)) e (length-filler (length bits))
+    rw (stream_bytes bits p)
+    (readings_packed F th (length (bits ++ filler (length bits))) false xs bits (filler (length bits)) e (length-filler (length bits))
     (le_refl (length (bits ++ filler (length bits)))))
 
 -- ---- the four mesh types
@@ -123,19 +123,19 @@ module _ (first coord comp n : ℕ) (c : 1 ≤ coord) where
   Whole (Follows coords colours) = 8 ≤ first + (coords * coord + colours * n * comp)
   Whole Ends = Unit {0}
 
-  whole-patch : (own : ℕ) (started : Bool) (x : ℕ) → 4 ≤ own → Whole (patch_shape own started x)
-  whole-patch own started x h = every_patch Whole own started x (omega (arith, mul-le-mul h c)) (omega (arith, mul-le-mul h c)) tt
+  whole_patch : (own : ℕ) (started : Bool) (x : ℕ) → 4 ≤ own → Whole (patch_shape own started x)
+  whole_patch own started x h = every_patch Whole own started x (omega (arith, mul-le-mul h c)) (omega (arith, mul-le-mul h c)) tt
 
-  whole-shape : (kind : Kind) (started : Bool) (x : ℕ) → thin kind first coord comp n ≡ false → Whole (shape_of kind started x)
+  whole_shape : (kind : Kind) (started : Bool) (x : ℕ) → thin kind first coord comp n ≡ false → Whole (shape_of kind started x)
   unfolding thin
-  whole-shape Four started x t = omega (arith, ltb-false (first + (2 * coord + n * comp)) 8 t)
-  whole-shape Five started x t = omega (arith, ltb-false (first + (coord + n * comp)) 8 t)
-  whole-shape Six started x t = whole-patch 8 started x (omega arith)
-  whole-shape Seven started x t = whole-patch 12 started x (omega arith)
+  whole_shape Four started x t = omega (arith, ltb-false (first + (2 * coord + n * comp)) 8 t)
+  whole_shape Five started x t = omega (arith, ltb-false (first + (coord + n * comp)) 8 t)
+  whole_shape Six started x t = whole_patch 8 started x (omega arith)
+  whole_shape Seven started x t = whole_patch 12 started x (omega arith)
 
   pub thick : (kind : Kind) → thin kind first coord comp n ≡ false → Thick (format kind first coord comp n)
   thick kind t started x due e =
       let r = follows_some coord comp n (shape_of kind started x) due e in
-      let w : Whole (Follows r.0 r.1) = subst Whole r.2 (whole-shape kind started x t) in
+      let w : Whole (Follows r.0 r.1) = subst Whole r.2 (whole_shape kind started x t) in
       rw r.3
       (omega (arith, w, sum-append (replicate r.0 coord) (replicate (r.1 * n) comp), sum-replicate r.0 coord, sum-replicate (r.1 * n) comp))

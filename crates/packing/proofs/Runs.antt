@@ -11,7 +11,7 @@ use lib.Pow.{pow_pos}
 use borrow.Author.Tests.{ltb-true, ltb-false, lt-ltb, le-ltb}
 use lib.ListN.{length, get_or, drop, length-drop}
 use lib.Seq.{take-suc, length-take-le, get_or-take, get_or-drop}
-use Rattle.lists.proofs.Pieces.{flat-more, length-flat}
+use Rattle.lists.proofs.Pieces.{flat_more, length-flat}
 use Rattle.bits.specs.Bits.{bits_of}
 use Rattle.bits.proofs.Digits.{length-bits}
 use Rattle.packing.specs.Inner.Passes.{run_at, fits, run_bits}
@@ -36,7 +36,7 @@ and_right false b e = absurd (false≢true e)
 
 pub run_bits-more : (w : ℕ) (xs : List ℕ) (from k : ℕ) → from + k < length xs
     → run_bits w (run_at xs from (k + 1)) ≡ run_bits w (run_at xs from k) ++ bits_of w (get_or xs (from + k) 0)
-run_bits-more w xs from k h = rw (run_more xs from k h) (flat-more (bits_of w) (run_at xs from k) (get_or xs (from + k) 0))
+run_bits-more w xs from k h = rw (run_more xs from k h) (flat_more (bits_of w) (run_at xs from k) (get_or xs (from + k) 0))
 
 pub length-run_bits : (w : ℕ) (xs : List ℕ) (from count : ℕ) → from + count ≤ length xs → length (run_bits w (run_at xs from count)) ≡ count * w
 length-run_bits w xs from count h =
@@ -44,29 +44,29 @@ length-run_bits w xs from count h =
 
 -- ---- whether a run fits
 
-fits-append : (w : ℕ) (xs ys : List ℕ) → fits w (xs ++ ys) ≡ (fits w xs && fits w ys)
+fits_append : (w : ℕ) (xs ys : List ℕ) → fits w (xs ++ ys) ≡ (fits w xs && fits w ys)
 unfolding fits
-fits-append w [] ys = refl
-fits-append w (x ∷ xs) ys = rw (fits-append w xs ys) (sym (and_assoc (ltb x (2 ^ w)) (fits w xs) (fits w ys)))
+fits_append w [] ys = refl
+fits_append w (x ∷ xs) ys = rw (fits_append w xs ys) (sym (and_assoc (ltb x (2 ^ w)) (fits w xs) (fits w ys)))
 
 fits_more : (w : ℕ) (xs : List ℕ) (from k : ℕ) → from + k < length xs
     → fits w (run_at xs from (k + 1)) ≡ (fits w (run_at xs from k) && ltb (get_or xs (from + k) 0) (2 ^ w))
 unfolding fits
 fits_more w xs from k h =
-    rw (run_more xs from k h, fits-append w (run_at xs from k) (get_or xs (from + k) 0 ∷ []), and-true)
+    rw (run_more xs from k h, fits_append w (run_at xs from k) (get_or xs (from + k) 0 ∷ []), and-true)
 
 -- every number of a run that fits
-fits-at : (w : ℕ) (xs : List ℕ) (k : ℕ) → k < length xs → fits w xs ≡ true → get_or xs k 0 < 2 ^ w
+fits_at : (w : ℕ) (xs : List ℕ) (k : ℕ) → k < length xs → fits w xs ≡ true → get_or xs k 0 < 2 ^ w
 unfolding fits
-fits-at w [] k h e = absurd (omega arith)
-fits-at w (x ∷ xs) zero h e = ltb-true x (2 ^ w) (and_left (ltb x (2 ^ w)) (fits w xs) e)
-fits-at w (x ∷ xs) (suc k) h e = fits-at w xs k (omega arith) (and_right (ltb x (2 ^ w)) (fits w xs) e)
+fits_at w [] k h e = absurd (omega arith)
+fits_at w (x ∷ xs) zero h e = ltb-true x (2 ^ w) (and_left (ltb x (2 ^ w)) (fits w xs) e)
+fits_at w (x ∷ xs) (suc k) h e = fits_at w xs k (omega arith) (and_right (ltb x (2 ^ w)) (fits w xs) e)
 
 pub run_fits-at : (w : ℕ) (xs : List ℕ) (from count k : ℕ) → from + count ≤ length xs → k < count → fits w (run_at xs from count) ≡ true
     → get_or xs (from + k) 0 < 2 ^ w
 run_fits-at w xs from count k h l e =
     let n : k < length (run_at xs from count) = rw (length_run xs from count h) l in
-    rw (get_or-take count (drop from xs) k 0 l, get_or-drop from xs k 0) at (fits-at w (run_at xs from count) k n e)
+    rw (get_or-take count (drop from xs) k 0 l, get_or-drop from xs k 0) at (fits_at w (run_at xs from count) k n e)
 
 -- ---- the or of numbers fits exactly when each does
 

@@ -17,8 +17,8 @@ use Rattle.packing.specs.declared.finding.Found.TheVariants.{Record, End}
 use Rattle.packing.specs.Inner.Passes.{FoundIn}
 
 -- a product with a number of at most 32
-pub times-few : (a b : ℕ) → b ≤ 32 → a * b ≤ 32 * a
-times-few a b h = omega (arith, mul-le-mul_left a h)
+pub times_few : (a b : ℕ) → b ≤ 32 → a * b ≤ 32 * a
+times_few a b h = omega (arith, mul-le-mul_left a h)
 
 -- what the code finds at an index
 module _ (m : Mesh) (xs : List ℕ) (i : ℕ) where
@@ -27,10 +27,10 @@ module _ (m : Mesh) (xs : List ℕ) (i : ℕ) where
 
   pub found_record : {coords colours : ℕ} → Follows coords colours ≡ shape → Readable m → FoundIn m xs i (Record coords (colours * m.n))
   found_record e r =
-      let f = small (ltb 0 i) (get_or xs i 0) r e in (ap (widths_of m.coord m.comp m.n) (sym e), f.coords-few, f.comps-few)
+      let f = small (ltb 0 i) (get_or xs i 0) r e in (ap (widths_of m.coord m.comp m.n) (sym e), f.coords_few, f.comps_few)
 
-  pub found-end : Ends ≡ shape → FoundIn m xs i End
-  found-end e = ap (widths_of m.coord m.comp m.n) (sym e)
+  pub found_end : Ends ≡ shape → FoundIn m xs i End
+  found_end e = ap (widths_of m.coord m.comp m.n) (sym e)
 
 -- a record whose widths are known
 pub follows_some : (coord comp n : ℕ) (shape : Shape) (due : List ℕ) → widths_of coord comp n shape ≡ some due

@@ -24,7 +24,7 @@ pub fn fits_width(x: u32, w: usize) -> bool
 }
 
 // Whether each number of a run fits a width. Their or fits exactly when each does.
-pub fn run_fits_lem(numbers: &[u32], first: usize, count: usize, w: usize) -> bool
+pub fn run_fits(numbers: &[u32], first: usize, count: usize, w: usize) -> bool
     requires { (first + count ≤ length numbers.now) × (w ≤ 32) }
     ensures { result ≡ fits w (run_at numbers.now first count) }
 {
@@ -48,8 +48,8 @@ pub fn record_fits(numbers: &[u32], i: usize, mesh: Mesh, coords: usize, comps: 
     let x = numbers[i];
     let rest = i + 1;
     fits_width(x, mesh.first)
-        && (run_fits_lem(numbers, rest, coords, mesh.coord)
-            && run_fits_lem(numbers, rest + coords, comps, mesh.comp))
+        && (run_fits(numbers, rest, coords, mesh.coord)
+            && run_fits(numbers, rest + coords, comps, mesh.comp))
 }
 
 // How many bits a record takes.

@@ -20,12 +20,12 @@ use Rattle.meshes.specs.Decoded.{by_decode, as_listed}
 use Rattle.meshes.specs.Outcomes.{fitted_mesh}
 use Rattle.patches.specs.declared.finding.Records.{Records}
 use Rattle.patches.specs.Inner.Records.{RecordsThere, Suits, patch_size, finished_of}
-use Rattle.patches.proofs.Walk.{finished-length}
+use Rattle.patches.proofs.Walk.{finished_length}
 
 module _ {T : Table} {m : Records} {s : List ℕ} {vs : List Float} (suits : Suits T m) (u : RecordsThere m s vs) {c : ℕ}
     (counted : (R : Ranges) → c ≡ (finished_of T m s vs R).count) where
   pub room_for_patches : (R : Ranges) {room : ℕ} → c * patch_size m ≤ room → length (finished_of T m s vs R).numbers ≤ room
-  room_for_patches R h = rw (finished-length suits R u, ← counted R) h
+  room_for_patches R h = rw (finished_length suits R u, ← counted R) h
 
   module _ (dec entry : List Float) where
     abbrev F : Format
@@ -35,7 +35,7 @@ module _ {T : Table} {m : Records} {s : List ℕ} {vs : List Float} (suits : Sui
     decoded = finished_of T m s vs (held_ranges (range_list dec m.layout.coord m.layout.comp))
 
     pub no_room_for_patches : length entry < c * patch_size m → Done (fitted_mesh decoded (length entry)) entry (Refused (Room (c * patch_size m))) entry
-    no_room_for_patches = no_room_for decoded.count decoded.numbers (patch_size m) (finished-length suits _ u) (counted _)
+    no_room_for_patches = no_room_for decoded.count decoded.numbers (patch_size m) (finished_length suits _ u) (counted _)
 
     pub patches_written : (held before : List Float) {exit : List Float} {p : ℕ} → held ≡ filled_ranges m.layout dec before
         → Written entry exit 0 (finished_of T m s vs (held_ranges held)).numbers p → Done (fitted_mesh decoded (length entry)) entry (Wrote c) exit

@@ -22,9 +22,9 @@ pub points_joined : (own f : ℕ) → 1 ≤ f → own ≡ points_after own f
 points_joined own zero h = absurd (omega arith)
 points_joined own (suc f) h = refl
 
-pub colours-joined : (f : ℕ) → 1 ≤ f → 2 ≡ colours_after f
-colours-joined zero h = absurd (omega arith)
-colours-joined (suc f) h = refl
+pub colours_joined : (f : ℕ) → 1 ≤ f → 2 ≡ colours_after f
+colours_joined zero h = absurd (omega arith)
+colours_joined (suc f) h = refl
 
 -- the products of a record's places
 pub products : (points colours coord comp n : ℕ) → points ≤ 16 → colours ≤ 4 → coord ≤ 32 → comp ≤ 32 → n ≤ 32
@@ -34,11 +34,11 @@ products points colours coord comp n a b c d e =
     let y : n * comp ≤ 1024 = omega (arith, mul-le-mul e d) in
     (omega (arith, mul-le-mul a x), y, omega (arith, mul-le-mul b y))
 
-pub joined-size : (m : Records) (f : ℕ) → 1 ≤ f
+pub joined_size : (m : Records) (f : ℕ) → 1 ≤ f
     → size_of m f ≡ m.layout.flag + (m.own * (2 * m.layout.coord) + 2 * (m.layout.n * m.layout.comp))
 unfolding size_of
-joined-size m zero h = absurd (omega arith)
-joined-size m (suc f) h = refl
+joined_size m zero h = absurd (omega arith)
+joined_size m (suc f) h = refl
 
 -- a record takes its flag at least
 pub record_moves : (m : Records) (f : ℕ) → m.layout.flag ≤ size_of m f
@@ -87,9 +87,9 @@ end_tests true false g e p = λ q. refl
 end_tests false b g e p = λ q. let z : ◌≡◌ {A = ℕ} 0 1 = cc in absurd (omega arith)
 
 module _ (m : Records) (s : List ℕ) (vs : List Float) (most pos : ℕ) where
-  pub found-whole : (f : ℕ) (next : Place) → Record f next ≡ found_at m s vs most pos → RecordWhole m s vs most pos f next
+  pub found_whole : (f : ℕ) (next : Place) → Record f next ≡ found_at m s vs most pos → RecordWhole m s vs most pos f next
   unfolding found_at
-  found-whole f next e =
+  found_whole f next e =
       let g : ℕ = flag_in m.layout m.mask s vs pos in
       let t = by_tests (leb g most) (leb (pos + size_of m g) m.limit) g (record { 0 = pos + size_of m g }) f next e in
       let a = leb-true _ _ t.0 in

@@ -14,15 +14,15 @@ use Rattle.rows.specs.declared.Place.{Place}
 use Rattle.rules.specs.Patches.{Places, Table, onto, mesh, patch_row}
 use Rattle.rules.specs.Inner.Sides.{Fits}
 use Rattle.records.specs.Format.{points_after, colours_after}
-use Rattle.rules.proofs.Patches.{Before, mesh-more}
+use Rattle.rules.proofs.Patches.{Before, mesh_more}
 use Rattle.rules.proofs.Meshes.{Numbered, onto_numbered}
 use Rattle.rules.proofs.RawReading.{there}
-use Rattle.rules.proofs.Rows.{onto-row, length-patch_row}
+use Rattle.rules.proofs.Rows.{onto_row, length-patch_row}
 use Rattle.meshes.proofs.PatchRecords.{RowPiece, RowPatch, Brings, row_of, highest}
 use Rattle.patches.specs.declared.finding.Records.{Records}
 use Rattle.patches.specs.declared.finding.Found.TheVariants.{Record}
 use Rattle.patches.specs.Inner.Records.{Suits, found_at, points_from, colours_from, patch_size, point_in, colour_in, side_points, side_colours, row_at}
-use Rattle.patches.proofs.Found.{found-whole}
+use Rattle.patches.proofs.Found.{found_whole}
 use Rattle.patches.proofs.Records.{Promised, rest_more}
 
 side_there : (k : ℕ) (T : Table) (f : ℕ) → f < length T → All (Fits k) T → (side : Places) × (get_elem? T f ≡ some side) × Fits k side
@@ -53,10 +53,10 @@ module _ {T : Table} {m : Records} {s : List ℕ} {vs : List Float} {R : Ranges}
     pub filled : Filled m new
     pub row : (o : List Float) (start : ℕ) → Before (λ (p : RowPatch). PatchStands p o start) b → row_of new ≡ row_at T m s vs R o start f pos
 
-  pub next-patch : Suits T m → (b : Option RowPatch) → Before (Filled m) b → (pos f : ℕ) (next : Place) → Record f next ≡ found_at m s vs (highest b) pos
+  pub next_patch : Suits T m → (b : Option RowPatch) → Before (Filled m) b → (pos f : ℕ) (next : Place) → Record f next ≡ found_at m s vs (highest b) pos
       → Next b pos f next
-  next-patch suits b z pos f next e =
-      let h = found-whole m s vs (highest b) pos f next e in
+  next_patch suits b z pos f next e =
+      let h = found_whole m s vs (highest b) pos f next e in
       let t = rest_more w b pos f next e in
       go b f z h.allowed t.0 t.1 t.2
     where
@@ -68,7 +68,7 @@ module _ {T : Table} {m : Records} {s : List ℕ} {vs : List Float} {R : Ranges}
       go b zero z a q e v =
           record {
             new = q.body;
-            gives = ap (mesh T b) e ∙ mesh-more T b q _ q.body (rw v.flagged);
+            gives = ap (mesh T b) e ∙ mesh_more T b q _ q.body (rw v.flagged);
             filled = v.numbered;
             row = λ o start k. unfold patch_row row_at in rw (v.points_are, v.colours_are);
           }
@@ -77,12 +77,12 @@ module _ {T : Table} {m : Records} {s : List ℕ} {vs : List Float} {R : Ranges}
           let t = side_there (4 + m.own) T f (omega (arith, suits.three)) suits.fits in
           record {
             new = onto b t.0 q.body;
-            gives = ap (mesh T (some b)) e ∙ mesh-more T (some b) q _ (onto b t.0 q.body) (rw (v.flagged, t.1));
+            gives = ap (mesh T (some b)) e ∙ mesh_more T (some b) q _ (onto b t.0 q.body) (rw (v.flagged, t.1));
             filled = onto_numbered nan (λ (x : Float). 0) m.own (8 + m.layout.n) b t.0 q.body z t.2 v.numbered;
             row =
                 λ o start k.
                 unfold row_at side_points side_colours point_in colour_in in
-                onto-row (λ (row : List Float). row) (λ (row : List Float). row) 2 (8 + m.layout.n) nan o k.front k.back start b z.1 k.place
+                onto_row (λ (row : List Float). row) (λ (row : List Float). row) 2 (8 + m.layout.n) nan o k.front k.back start b z.1 k.place
                 k.split t.0 q.body (rw z.0.0 t.2.1) (rw z.0.1 t.2.2)
                 ∙ rw (v.points_are, v.colours_are, t.1, z.0.0);
           }

@@ -10,7 +10,7 @@ use Rattle.decode.specs.Decode.{Ranges}
 use Rattle.colour.specs.Inner.Places.{points_at, colours_at}
 use Rattle.rows.specs.Inner.Layouts.{numbers_of, masked, flag_in, flag_at}
 use Rattle.rows.specs.Inner.Placing.{points_alone, colours_alone, run_fits, NumbersThere}
-use Rattle.rows.proofs.Callers.{points_written, colours_written, flag-there}
+use Rattle.rows.proofs.Callers.{points_written, colours_written, flag_there}
 use Rattle.patches.specs.declared.finding.Records.{Records}
 use Rattle.patches.specs.Inner.Records.{RecordsThere, points_from, colours_from}
 
@@ -18,16 +18,16 @@ module _ {m : Records} {s : List ℕ} {vs : List Float} (u : RecordsThere m s vs
   pub flag_stands : {f : ℕ} → p + m.layout.flag ≤ m.limit → f ≡ flag_at m.layout s vs p
       → masked m.mask f ≡ flag_in m.layout m.mask s vs p
   flag_stands h e =
-      ap (masked m.mask) e ∙ flag-there m.layout s vs m.mask p
-      (λ e. let i = u.in_bits e in (u.fair.flag_some, u.fair.flag-few, i.1, omega arith)) (λ e. (u.in_list e).4)
+      ap (masked m.mask) e ∙ flag_there m.layout s vs m.mask p
+      (λ e. let i = u.in_bits e in (u.fair.flag_some, u.fair.flag_few, i.1, omega arith)) (λ e. (u.in_list e).4)
 
   standing : (size : ℕ) → p + size ≤ m.limit → NumbersThere m.layout s vs p size
   standing size h =
       let f = u.fair in
       record {
-        n-few = f.n-few;
+        n_few = f.n_few;
         in_list = λ e. let i = u.in_list e in (i.2, i.3, omega arith);
-        in_bits = λ e. let i = u.in_bits e in (f.coord_some, f.coord-few, f.comp_some, f.comp-few, i.1, omega arith);
+        in_bits = λ e. let i = u.in_bits e in (f.coord_some, f.coord_few, f.comp_some, f.comp_few, i.1, omega arith);
       }
 
   module _ (R : Ranges) {l o : List Float} {at next : ℕ} where

@@ -20,7 +20,7 @@ use Rattle.meshes.proofs.ReadPatches.{records_of_bytes}
 use Rattle.patches.specs.declared.finding.Records.{Records}
 use Rattle.patches.specs.declared.finding.Found.TheVariants.{Record, End}
 use Rattle.patches.specs.Inner.Records.{RecordsThere, size_of, found_at, points_from, colours_from, finished_of}
-use Rattle.patches.proofs.Found.{found-whole, found_none}
+use Rattle.patches.proofs.Found.{found_whole, found_none}
 
 -- what the mesh comes to is the mesh of its records
 abbrev pub Kept : Table → Records → List ℕ → List Float → Ranges → Type 0
@@ -52,10 +52,10 @@ module _ {T : Table} {m : Records} {s : List ℕ} {vs : List Float} {R : Ranges}
       (colours_from m s vs R (colours_after f) (pos + m.layout.flag + points_after m.own f * (2 * m.layout.coord))) q
   unfolding points_from colours_from size_of
   rest_more b pos f next e =
-      let h = found-whole m s vs (highest b) pos f next e in
+      let h = found_whole m s vs (highest b) pos f next e in
       rw h.after (w.kept.more b pos f h.flagged h.allowed (rw h.after at h.within))
 
   -- no patch comes where no record was found
-  pub rest-ends : (b : Option RowPatch) (pos : ℕ) → pos ≤ m.limit → End ≡ found_at m s vs (highest b) pos → mesh T b (w.kept.from (there b) pos) ≡ []
+  pub rest_ends : (b : Option RowPatch) (pos : ℕ) → pos ≤ m.limit → End ≡ found_at m s vs (highest b) pos → mesh T b (w.kept.from (there b) pos) ≡ []
   unfolding size_of
-  rest-ends b pos h e = w.kept.ends b pos h (found_none m s vs (highest b) pos e)
+  rest_ends b pos h e = w.kept.ends b pos h (found_none m s vs (highest b) pos e)

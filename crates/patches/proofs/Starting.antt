@@ -12,7 +12,7 @@ use Rattle.decode.specs.Decode.{Ranges, ranges}
 use Rattle.records.specs.declared.layout.FlagWidth.TheVariants.{Bits}
 use Rattle.records.specs.Format.{Meaning}
 use Rattle.records.specs.Layout.{layout_readable}
-use Rattle.records.proofs.Layouts.{layout-widths}
+use Rattle.records.proofs.Layouts.{layout_widths}
 use Rattle.rows.specs.Inner.Layouts.{masked, range_list, held_ranges}
 use Rattle.rows.proofs.Held.{held_ranges_lem}
 use Rattle.rules.specs.Patches.{sides}
@@ -56,36 +56,36 @@ list_there form own n s vs e few short =
       fair =
           record {
             flag_some = omega arith;
-            flag-few = omega arith;
+            flag_few = omega arith;
             coord_some = omega arith;
-            coord-few = omega arith;
+            coord_few = omega arith;
             comp_some = omega arith;
-            comp-few = omega arith;
+            comp_few = omega arith;
             own_few = o;
-            n-few = few;
+            n_few = few;
             limit_few = omega arith;
           };
       in_list = λ t. (refl, refl, refl, refl, refl);
       in_bits = λ t. never t;
     }
 
-pub bits-there : (form : Form) (flag mask coord comp own n entries : ℕ) (s : List ℕ) (vs : List Float) → own ≡ own_of form
+pub bits_there : (form : Form) (flag mask coord comp own n entries : ℕ) (s : List ℕ) (vs : List Float) → own ≡ own_of form
     → layout_readable coord comp (Bits flag) entries ≡ true → n ≤ most_components → length s ≤ most_bytes
     → RecordsThere (bit_records flag mask coord comp own n s) s vs
-bits-there form flag mask coord comp own n entries s vs e lay few short =
+bits_there form flag mask coord comp own n entries s vs e lay few short =
     let o = own_few form own e in
-    let w = layout-widths (Bits flag) coord comp entries lay in
+    let w = layout_widths (Bits flag) coord comp entries lay in
     record {
       fair =
           record {
             flag_some = w.of_first.some_bits;
-            flag-few = w.of_first.few_bits;
+            flag_few = w.of_first.few_bits;
             coord_some = w.of_coord.some_bits;
-            coord-few = w.of_coord.few_bits;
+            coord_few = w.of_coord.few_bits;
             comp_some = w.of_comp.some_bits;
-            comp-few = w.of_comp.few_bits;
+            comp_few = w.of_comp.few_bits;
             own_few = o;
-            n-few = few;
+            n_few = few;
             limit_few = omega arith;
           };
       in_list = λ t. never (sym t);
@@ -128,15 +128,15 @@ module _ (flag mask coord comp n : ℕ) (entries : List Float) (s : List ℕ) (v
       patches_alike (masked mask) (held_ranges (range_list entries coord comp)) (ranges entries coord comp) n
       (λ k h. held_ranges_lem entries coord comp k (omega arith)) sides own fit xs
 
-  pub bits-outcome : (form : Form) (own : ℕ) → own ≡ own_of form
+  pub bits_outcome : (form : Form) (own : ℕ) → own ≡ own_of form
       → fitted_mesh (finished_of sides (bit_records flag mask coord comp own n s) s vs (held_ranges (range_list entries coord comp))) (length entry)
       ≡ parsed_form form (masked mask) s coord comp flag entries n (length entry)
   unfolding parsed_form finished_of
-  bits-outcome Coons own e =
+  bits_outcome Coons own e =
       rw e
       (ap (λ (M : Finished Float). fitted_mesh M (length entry)) (same 8 (raw_of (stream_of Coons (masked mask) coord comp flag entries n) s) sides_fit.0)
       ∙ sym (accepted (stream_of Coons (masked mask) coord comp flag entries n) (patch_mesh sides 8) s entry lay few short))
-  bits-outcome Tensor own e =
+  bits_outcome Tensor own e =
       rw e
       (ap (λ (M : Finished Float). fitted_mesh M (length entry)) (same 12 (raw_of (stream_of Tensor (masked mask) coord comp flag entries n) s) sides_fit.1)
       ∙ sym (accepted (stream_of Tensor (masked mask) coord comp flag entries n) (patch_mesh sides 12) s entry lay few short))

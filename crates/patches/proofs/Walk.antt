@@ -22,9 +22,9 @@ use Rattle.meshes.proofs.PatchRecords.{RowPatch, row_of, highest}
 use Rattle.patches.specs.declared.finding.Records.{Records}
 use Rattle.patches.specs.declared.finding.Found.TheVariants.{Record, End}
 use Rattle.patches.specs.Inner.Records.{RecordsThere, Suits, found_at, patch_size, row_at, finished_of}
-use Rattle.patches.proofs.Found.{found-whole}
-use Rattle.patches.proofs.Records.{Promised, promised, rest-ends}
-use Rattle.patches.proofs.NextPatch.{Filled, length-row, PatchStands, Next, next-patch}
+use Rattle.patches.proofs.Found.{found_whole}
+use Rattle.patches.proofs.Records.{Promised, promised, rest_ends}
+use Rattle.patches.proofs.NextPatch.{Filled, length-row, PatchStands, Next, next_patch}
 
 -- ---- what a walk knows
 
@@ -50,8 +50,8 @@ module _ (T : Table) (m : Records) (s : List ℕ) (vs : List Float) (R : Ranges)
 
 module _ {T : Table} {m : Records} {s : List ℕ} {vs : List Float} (suits : Suits T m) (R : Ranges) where
   -- each patch takes as many numbers
-  pub finished-length : RecordsThere m s vs → length (finished_of T m s vs R).numbers ≡ (finished_of T m s vs R).count * patch_size m
-  finished-length u = (promised u suits.three R).kept.length_is suits.fits
+  pub finished_length : RecordsThere m s vs → length (finished_of T m s vs R).numbers ≡ (finished_of T m s vs R).count * patch_size m
+  finished_length u = (promised u suits.three R).kept.length_is suits.fits
 
   -- ---- counting
 
@@ -62,12 +62,12 @@ module _ {T : Table} {m : Records} {s : List ℕ} {vs : List Float} (suits : Sui
 
   pub count_end : {count pos most : ℕ} → Count T m s vs R count pos most → pos ≤ m.limit → End ≡ found_at m s vs most pos
       → count ≡ (finished_of T m s vs R).count
-  count_end {count} {pos} {most} w h e = omega (arith, w.total, ap length (rest-ends w.records w.before pos h (rw w.top at e)))
+  count_end {count} {pos} {most} w h e = omega (arith, w.total, ap length (rest_ends w.records w.before pos h (rw w.top at e)))
 
   pub count_step : {count pos most : ℕ} (f : ℕ) (next : Place) → Count T m s vs R count pos most → Record f next ≡ found_at m s vs most pos
       → Count T m s vs R (count + 1) next.0 3
   count_step {count} {pos} {most} f next w e =
-      let t = next-patch w.records suits w.before w.filled pos f next (rw w.top at e) in
+      let t = next_patch w.records suits w.before w.filled pos f next (rw w.top at e) in
       record {
         records = w.records;
         before = some t.new;
@@ -95,11 +95,11 @@ module _ {T : Table} {m : Records} {s : List ℕ} {vs : List Float} (suits : Sui
   module _ {l o : List Float} {p pos most : ℕ} (w : Walk T m s vs R l o p pos most) where
     pub walk_end : pos ≤ m.limit → End ≡ found_at m s vs most pos → Written l o 0 (finished_of T m s vs R).numbers p
     unfolding flat
-    walk_end h e = going_end (rw (rest-ends w.records w.before pos h (rw w.top at e)) at w.going)
+    walk_end h e = going_end (rw (rest_ends w.records w.before pos h (rw w.top at e)) at w.going)
 
     module _ (f : ℕ) (next : Place) (e : Record f next ≡ found_at m s vs most pos) where
       pub walk_flag : f ≤ 3
-      walk_flag = go w.before (rw w.top at (found-whole m s vs most pos f next e).allowed)
+      walk_flag = go w.before (rw w.top at (found_whole m s vs most pos f next e).allowed)
         where
           go : (b : Option RowPatch) → f ≤ highest b → f ≤ 3
           go none a = omega arith
@@ -107,14 +107,14 @@ module _ {T : Table} {m : Records} {s : List ℕ} {vs : List Float} (suits : Sui
 
       -- a joined patch has one before it
       pub walk_joined : 1 ≤ f → patch_size m ≤ p
-      walk_joined h = go w.before w.last (rw w.top at (found-whole m s vs most pos f next e).allowed)
+      walk_joined h = go w.before w.last (rw w.top at (found_whole m s vs most pos f next e).allowed)
         where
           go : (b : Option RowPatch) → Before (λ (b : RowPatch). (patch_size m ≤ p) × PatchStands b o (p - patch_size m)) b → f ≤ highest b → patch_size m ≤ p
           go none k a = absurd (omega arith)
           go (some b) k a = k.0
 
       new_patch : Next w.records w.before pos f next
-      new_patch = next-patch w.records suits w.before w.filled pos f next (rw w.top at e)
+      new_patch = next_patch w.records suits w.before w.filled pos f next (rw w.top at e)
 
       goes_on : Going (finished_of T m s vs R).numbers l o p
           (row_of new_patch.new ++ flat row_of (mesh T (some new_patch.new) (w.records.kept.from true next.0)))

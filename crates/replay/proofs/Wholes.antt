@@ -32,9 +32,9 @@ module _ (s : List ℕ) (at : ℕ) where
         unfolding is_whole
         large_room h = rw (le-leb _ _ headed, known, le-leb _ _ short, lt-leb _ _ h)
 
-        pub whole-end : room_at s at ≤ 4096 → leb (end_place s at) (length s) ≡ is_whole s at
+        pub whole_end : room_at s at ≤ 4096 → leb (end_place s at) (length s) ≡ is_whole s at
         unfolding is_whole
-        whole-end r = rw (le-leb _ _ headed, known, le-leb _ _ short, le-leb _ _ r)
+        whole_end r = rw (le-leb _ _ headed, known, le-leb _ _ short, le-leb _ _ r)
 
   pub whole_case : is_whole s at ≡ true → CaseThere s at
   unfolding is_whole
@@ -52,7 +52,7 @@ few_bytes Unknown size = omega arith
 
 -- what a whole case needs has room
 pub record Sizes (s : List ℕ) (at entries second end room : ℕ) : Type 0 where
-  pub entries-end : at + 31 + 8 * entries ≡ second
+  pub entries_end : at + 31 + 8 * entries ≡ second
   pub input_end : second ≤ end
   pub file_end : end ≤ length s
   pub few : end - second ≤ 8192
@@ -63,7 +63,7 @@ pub sizes : (s : List ℕ) (at : ℕ) → CaseThere s at
 unfolding input_place end_place
 sizes s at w =
     let n = few_bytes (call_at s at).function (input_at s at) in
-    record { entries-end = omega arith; input_end = omega arith; file_end = w.end; few = omega (arith, w.input); small = w.room }
+    record { entries_end = omega arith; input_end = omega arith; file_end = w.end; few = omega (arith, w.input); small = w.room }
 
 next_of : (whole same : Bool) (seen : Seen) (at next size : ℕ) → (whole ≡ true → (at < next) × (next ≤ size))
     → Moves at size (cond whole (cond same (Agrees next) (Differs seen next)) Unreadable)

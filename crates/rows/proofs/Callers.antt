@@ -20,8 +20,8 @@ use Rattle.colour.proofs.Lengths.{length-vertex_at, length-points_at, length-col
 use Rattle.rows.specs.declared.Layout.{Layout}
 use Rattle.rows.specs.Inner.Layouts.{numbers_of, vertex_in, masked, flag_in, flag_at}
 use Rattle.rows.specs.Inner.Placing.{run_places, run_fits, copy_fits, bits_fit, corner_fits, NumbersThere, points_alone, colours_alone, shared_rows, row_index}
-use Rattle.rows.proofs.Masks.{whole-masked, flag_below}
-use Rattle.rows.proofs.Sources.{numbers_listed, numbers-bits}
+use Rattle.rows.proofs.Masks.{whole_masked, flag_below}
+use Rattle.rows.proofs.Sources.{numbers_listed, numbers_bits}
 use Rattle.rows.proofs.Fits.{run_fits_lem, copy_fits_lem, rows_fit_lem, bits_fit_lem}
 use Rattle.rows.proofs.Standings.{standing_less}
 use Rattle.rows.proofs.Corners.{shared_end, vertex_listed, vertex_in-bits}
@@ -36,11 +36,11 @@ module _ (L : Layout) (s : List ℕ) (vs : List Float) where
       by_kind true e =
           let f = w.in_list e in
           rw (vertex_listed L s vs R p e, numbers_listed L s vs R e, f.0, f.1)
-      by_kind false e = rw (vertex_in-bits L s vs R p e, numbers-bits L s vs R e)
+      by_kind false e = rw (vertex_in-bits L s vs R p e, numbers_bits L s vs R e)
 
-  numbers-there : (p : ℕ) → NumbersThere L s vs p (2 * L.coord + L.n * L.comp)
+  numbers_there : (p : ℕ) → NumbersThere L s vs p (2 * L.coord + L.n * L.comp)
       → cond L.listed (leb (p + (2 + L.n)) (length vs)) (bits_fit L s p) ≡ true
-  numbers-there p w = by_kind L.listed refl
+  numbers_there p w = by_kind L.listed refl
     where
       by_kind : (b : Bool) → L.listed ≡ b → cond b (leb (p + (2 + L.n)) (length vs)) (bits_fit L s p) ≡ true
       by_kind true e =
@@ -73,16 +73,16 @@ module _ (L : Layout) (s : List ℕ) (vs : List Float) where
         → NumbersThere L s vs p (2 * L.coord + L.n * L.comp) → row_index side (10 + L.n) at + (10 + L.n) ≤ length entry → (side < at → side + (10 + L.n) ≤ at)
         → Written entry exit at (shared_rows entry side (10 + L.n) at ++ vertex_at (numbers_of L s vs R) L.coord L.comp L.n p) next
     corner_placed p side d w h b =
-        let fit = rows_fit_lem L.n side at (length entry) w.n-few h b in
+        let fit = rows_fit_lem L.n side at (length entry) w.n_few h b in
         let is = vertex_in_lem R p w in
         let long = length-append (shared_rows entry side (10 + L.n) at) (vertex_at (numbers_of L s vs R) L.coord L.comp L.n p) in
-        placed_written (rw is at d) (rw (fit, numbers-there p w))
+        placed_written (rw is at d) (rw (fit, numbers_there p w))
         (omega (arith, shared_end entry side (10 + L.n) at, length-vertex_at (numbers_of L s vs R) L.coord L.comp L.n p))
 
   module _ (mask p : ℕ) where
     flag_listed : L.listed ≡ true → mask ≡ 4294967295 → masked mask (flag_at L s vs p) ≡ flag_in L mask s vs p
     unfolding flag_at flag_in
-    flag_listed e w = rw (e, w) (whole-masked (flag_of (get_or vs p nan)) (flag_below (get_or vs p nan)))
+    flag_listed e w = rw (e, w) (whole_masked (flag_of (get_or vs p nan)) (flag_below (get_or vs p nan)))
 
     flag_in-bits : L.listed ≡ false → 1 ≤ L.flag → L.flag ≤ 32 → length s ≤ most_bytes → p + L.flag ≤ 8 * length s
         → masked mask (flag_at L s vs p) ≡ flag_in L mask s vs p
@@ -90,9 +90,9 @@ module _ (L : Layout) (s : List ℕ) (vs : List Float) where
     flag_in-bits e a b c d = rw (e, ← (answer_number s p L.flag a b d (omega arith)))
 
     -- what is left of a flag by the mask is what it means; that of a list is left whole
-    pub flag-there : (L.listed ≡ false → (1 ≤ L.flag) × (L.flag ≤ 32) × (length s ≤ most_bytes) × (p + L.flag ≤ 8 * length s))
+    pub flag_there : (L.listed ≡ false → (1 ≤ L.flag) × (L.flag ≤ 32) × (length s ≤ most_bytes) × (p + L.flag ≤ 8 * length s))
         → (L.listed ≡ true → mask ≡ 4294967295) → masked mask (flag_at L s vs p) ≡ flag_in L mask s vs p
-    flag-there h w = by_kind L.listed refl
+    flag_there h w = by_kind L.listed refl
       where
         by_kind : (b : Bool) → L.listed ≡ b → masked mask (flag_at L s vs p) ≡ flag_in L mask s vs p
         by_kind true e = flag_listed e (w e)

@@ -55,8 +55,8 @@ shared_same {l} {o} {a} {p} {xs} side size at w h b = by_side (ltb side at) refl
         ap₂ (λ (x y : List Float). x ++ y) (part_before nan side size w (omega arith)) (part_before nan (at - size) size w (omega arith))
     by_side false e = refl
 
-pub row-after : (side size at : ℕ) → at ≤ row_index side size at
-row-after side size at = by_side (ltb side at)
+pub row_after : (side size at : ℕ) → at ≤ row_index side size at
+row_after side size at = by_side (ltb side at)
   where
     by_side : (t : Bool) → at ≤ cond t (at + 2 * size) at
     by_side true = omega arith
@@ -91,7 +91,7 @@ module _ (v : Vertex) (n side at : ℕ) {l o : List Float} {p : ℕ} (ten : Writ
       → Written o o₁ at (part nan o side (10 + n)) q → Written o₁ o₂ q (part nan o₁ (at - (10 + n)) (10 + n)) r
       → Written l o₂ at (shared_rows l side (10 + n) at ++ row_beside l (row_index side (10 + n) at) n v) (p + n)
   corner_joined {o₁} {o₂} {q} {r} h b w₁ w₂ =
-      let after = row-after side (10 + n) at in
+      let after = row_after side (10 + n) at in
       let first : part nan o side (10 + n) ≡ part nan l side (10 + n) = part_before nan side (10 + n) ten (omega arith) in
       let second : part nan o₁ (at - (10 + n)) (10 + n) ≡ part nan l (at - (10 + n)) (10 + n) =
       part_before nan (at - (10 + n)) (10 + n) w₁ (omega arith) ∙ part_before nan (at - (10 + n)) (10 + n) ten (omega arith) in
@@ -154,7 +154,7 @@ module _ (L : Layout) (s : List ℕ) (vs : List Float) (R : Ranges) (p : ℕ) {l
       → Written l o' at (shared_rows l side (10 + L.n) at ++ vertex_in L s vs R p) q
   corner_read {o'} {at} {q} side h e b end w =
       let n : ℕ = L.n in
-      let later = row-after side (10 + n) at in
+      let later = row_after side (10 + n) at in
       let same : shared_rows o side (10 + n) at ≡ shared_rows l side (10 + n) at = shared_same side (10 + n) at h.beside (omega arith) b in
       let beside : part nan o (row_index side (10 + n) at + 10) n ≡ h.comps = rw (← e) (written_here nan n h.beside h.sized) in
       let whole : Written o o' at (shared_rows l side (10 + n) at ++ (ten_numbers v ++ h.comps)) q = rw (same, beside) at w in

@@ -9,8 +9,8 @@ use lib.Ieee.{Float, nan, inf, fin, to_unsigned}
 use Rattle.decode.specs.Decode.{flag_of}
 use Rattle.rows.specs.Inner.Layouts.{masked}
 
-pub whole-masked : (x : ℕ) → x < 2 ^ 32 → masked 4294967295 x ≡ x
-whole-masked x h = and_mask x 32 ∙ mod-eq_of_lt h
+pub whole_masked : (x : ℕ) → x < 2 ^ 32 → masked 4294967295 x ≡ x
+whole_masked x h = and_mask x 32 ∙ mod-eq_of_lt h
 
 pub low_masked : (x : ℕ) → masked 3 x ≡ x % 4
 low_masked x = and_mask x 2

@@ -43,9 +43,9 @@ module _ (L : Layout) (s : List ℕ) (vs : List Float) (R : Ranges) where
   unfolding numbers_of
   numbers_listed e = rw e
 
-  pub numbers-bits : L.listed ≡ false → numbers_of L s vs R ≡ bit_numbers s R
+  pub numbers_bits : L.listed ≡ false → numbers_of L s vs R ≡ bit_numbers s R
   unfolding numbers_of
-  numbers-bits e = rw e
+  numbers_bits e = rw e
 
 module _ (vs : List Float) where
   pub point_of_list : (p : ℕ) → point_at (list_numbers vs) 1 p ≡ get_or vs p nan ∷ get_or vs (p + 1) nan ∷ []

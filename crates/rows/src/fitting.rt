@@ -34,7 +34,7 @@ fn is_there(data: &[u8], values: &[f64], layout: Layout, place: Place, size: usi
     bytes <= answers::MOST_BYTES && has_room(p, size, 8 * bytes)
 }
 
-pub fn run_fits_lem(
+pub fn run_fits(
     data: &[u8],
     values: &[f64],
     layout: Layout,
@@ -67,7 +67,7 @@ pub fn copy_fits(lead: usize, n: usize, from: usize, at: usize, room: usize) -> 
 }
 
 // Whether a vertex has few enough components, and the rows that come with it have room.
-pub fn rows_fit_lem(n: usize, side: usize, at: usize, room: usize) -> bool
+pub fn rows_fit(n: usize, side: usize, at: usize, room: usize) -> bool
     ensures { result ≡ rows_fit n side at room }
 {
     if n > answers::MOST_COMPONENTS {
@@ -81,7 +81,7 @@ pub fn rows_fit_lem(n: usize, side: usize, at: usize, room: usize) -> bool
 }
 
 // Whether the bits of a vertex are there.
-pub fn bits_fit_lem(data: &[u8], layout: Layout, p: usize) -> bool
+pub fn bits_fit(data: &[u8], layout: Layout, p: usize) -> bool
     requires { layout.n ≤ 32 }
     ensures { result ≡ bits_fit layout «data».now p }
 {

@@ -95,7 +95,7 @@ pub fn place_corner(
     ensures { Placed (corner_fits layout «data».now values.now place.0 side at (length out.old)) out.old out.new at (shared_rows out.old side (10 + layout.n) at ++ vertex_in layout «data».now values.now (held_ranges ranges.now) place.0) result }
 {
     let n = layout.n;
-    if !fitting::rows_fit_lem(n, side, at, out.len()) {
+    if !fitting::rows_fit(n, side, at, out.len()) {
         return at;
     }
     let p = place.0;
@@ -106,7 +106,7 @@ pub fn place_corner(
         }
         numbers::list_vertex(values, n, p, out, row)
     } else {
-        if !fitting::bits_fit_lem(data, layout, p) {
+        if !fitting::bits_fit(data, layout, p) {
             return at;
         }
         numbers::read_vertex(data, layout, ranges, BitPos(p), out, row)
@@ -131,7 +131,7 @@ pub fn place_points(
         points: k,
         colours: 0,
     };
-    if !fitting::run_fits_lem(data, values, layout, run, place, at, out.len()) {
+    if !fitting::run_fits(data, values, layout, run, place, at, out.len()) {
         return at;
     }
     numbers::write_points(data, values, layout, ranges, k, place, out, at)
@@ -154,7 +154,7 @@ pub fn place_colours(
         points: 0,
         colours: k,
     };
-    if !fitting::run_fits_lem(data, values, layout, run, place, at, out.len()) {
+    if !fitting::run_fits(data, values, layout, run, place, at, out.len()) {
         return at;
     }
     numbers::write_colours(data, values, layout, ranges, k, place, out, at)

@@ -9,14 +9,14 @@ use lib.ListN.{length, get_or, take, drop, length-append, length-drop}
 use lib.Seq.{take_at, drop_at, drop-nil, drop-drop, get_or-drop}
 use Rattle.lists.specs.Lists.{flat, All, Begins}
 use Rattle.lists.proofs.Members.{all_drop}
-use Rattle.lists.proofs.Pieces.{joined_same, part-take}
+use Rattle.lists.proofs.Pieces.{joined_same, part_take}
 use Rattle.records.specs.Format.{Meaning}
 use Rattle.records.proofs.Meanings.{Pair, Alike}
 use Rattle.rules.specs.Triangles.{Rule, triangles}
 use Rattle.rules.specs.Patches.{Piece, Table, mesh}
 use Rattle.rules.specs.Meshes.{flags, vertex4, type4_mesh, size_after, piece, pieces, patches, patch_mesh}
 use Rattle.rules.proofs.Lists.{all_map, group_fits, length_flat_all}
-use Rattle.rules.proofs.Triangles.{triangles-within, corners-same}
+use Rattle.rules.proofs.Triangles.{triangles_within, corners_same}
 use Rattle.rules.proofs.Meshes.{length-flags, pieces_none, pieces_more, piece_begins}
 
 -- a pair's record in the one list and in the other
@@ -79,13 +79,13 @@ drop-flat f m (p ∷ ps) (suc i) a =
 
 -- vertex i of a list whose pairs give a vertex each, and its flag
 module _ (n : ℕ) (f : Pair → List ℕ) (ps : List Pair) (sized : All (λ (p : Pair). length (f p) ≡ n + 3) ps) (i : ℕ) where
-  flag-from : get_or (flat f ps) (i * (n + 3)) 0 ≡ get_or (flat f (drop i ps)) 0 0
-  flag-from = rw (← (drop-flat f (n + 3) ps i sized), get_or-drop, add-zero)
+  flag_from : get_or (flat f ps) (i * (n + 3)) 0 ≡ get_or (flat f (drop i ps)) 0 0
+  flag_from = rw (← (drop-flat f (n + 3) ps i sized), get_or-drop, add-zero)
 
   vertex_from : i < length (flat f ps) / (n + 3) → vertex4 0 n (flat f ps) i ≡ take (n + 2) (drop 1 (flat f (drop i ps)))
   unfolding vertex4
   vertex_from h =
-      part-take 0 (flat f ps) (i * (n + 3) + 1) (n + 2) (omega (arith, group_fits i (n + 3) (length (flat f ps)) h))
+      part_take 0 (flat f ps) (i * (n + 3) + 1) (n + 2) (omega (arith, group_fits i (n + 3) (length (flat f ps)) h))
       ∙ ap (take (n + 2)) (sym (drop-drop 1 (i * (n + 3)) (flat f ps)) ∙ ap (drop 1) (drop-flat f (n + 3) ps i sized))
 
 module _ (n : ℕ) (flag flag' : Meaning) where
@@ -119,7 +119,7 @@ module _ (n : ℕ) (flag flag' : Meaning) where
           (rw (← (drop-flat left_of (n + 3) ps i left_sized), length-drop) (omega (arith, group_fits i (n + 3) (length (flat left_of ps)) h)))
 
       pairs_flag : flag (get_or (flat left_of ps) (i * (n + 3)) 0) ≡ flag' (get_or (flat right_of ps) (i * (n + 3)) 0)
-      pairs_flag = rw (flag-from n left_of ps left_sized i, flag-from n right_of ps right_sized i) here.0
+      pairs_flag = rw (flag_from n left_of ps left_sized i, flag_from n right_of ps right_sized i) here.0
 
       pairs_vertex : vertex4 0 n (flat left_of ps) i ≡ vertex4 0 n (flat right_of ps) i
       pairs_vertex =
@@ -144,6 +144,6 @@ module _ (n : ℕ) (flag flag' : Meaning) where
     alike_type4_mesh r {B} point colour =
         rw (← alike_flags)
         (ap (λ (ns : List B). record { count = length (triangles r (flags 0 flag n xs)); numbers = ns })
-        (corners-same (length xs / (n + 3)) _ _ (triangles r (flags 0 flag n xs))
-        (rw (length-flags 0 flag n xs) at (triangles-within r (flags 0 flag n xs)))
+        (corners_same (length xs / (n + 3)) _ _ (triangles r (flags 0 flag n xs))
+        (rw (length-flags 0 flag n xs) at (triangles_within r (flags 0 flag n xs)))
         (λ i h. ap (λ (v : List ℕ). point (take 2 v) ++ colour (drop 2 v)) (alike_vertex i h))))

@@ -36,9 +36,9 @@ lattice_none count k h = empty (lattice count k) (lattice_count count k ∙ zero
     empty (t ∷ l) e = absurd (omega arith)
 
 -- every vertex is among those given
-pub lattice-within : (count k : ℕ) → All (CornersBelow count) (lattice count k)
+pub lattice_within : (count k : ℕ) → All (CornersBelow count) (lattice count k)
 unfolding lattice
-lattice-within count k =
+lattice_within count k =
     all_joined (CornersBelow count) (count / k - 1) _
     (λ r h. all_joined (CornersBelow count) (k - 1) _
     (λ c l.

@@ -110,12 +110,12 @@ module _ {A B : Type 0} (f : A → List B) where
   length_flat_all m (x ∷ l) a = rw (length-append, suc-mul, length_flat_all m l a.1) (omega (arith, a.0))
 
   -- of the elements at given places, by what g finds at each place
-  pub flat-at : (g : ℕ → List B) (l : List A) (is : List ℕ) → AllBelow (length l) is
+  pub flat_at : (g : ℕ → List B) (l : List A) (is : List ℕ) → AllBelow (length l) is
       → ((i : ℕ) → i < length l → flat f (take 1 (drop i l)) ≡ g i) → flat f (at l is) ≡ flat g is
   unfolding at flat
-  flat-at g l [] a h = refl
-  flat-at g l (i ∷ is) a h =
-      flat_append f (take 1 (drop i l)) (at l is) ∙ ap₂ (λ (x y : List B). x ++ y) (h i a.0) (flat-at g l is a.1 h)
+  flat_at g l [] a h = refl
+  flat_at g l (i ∷ is) a h =
+      flat_append f (take 1 (drop i l)) (at l is) ∙ ap₂ (λ (x y : List B). x ++ y) (h i a.0) (flat_at g l is a.1 h)
 
   -- element i is found again, where each takes m places
   pub part_of_flat : (d : B) (m : ℕ) (front : List B) (l : List A) (back : List B) (i : ℕ) → All (λ (x : A). length (f x) ≡ m) l → i < length l

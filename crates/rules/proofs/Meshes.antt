@@ -19,8 +19,8 @@ use Rattle.records.specs.Format.{points_after, colours_after}
 use Rattle.rules.specs.Meshes.{Source, Finished, flags, vertex4, vertex5, vertex_row, type4_mesh, type5_mesh, size_after, groups, piece, pieces_to, pieces, patches, patch_mesh}
 use Rattle.rules.specs.Inner.Sides.{Sized, Fits}
 use Rattle.rules.proofs.Lists.{div_grows, group_fits, all_joined, joined_begins, begins_length, begins_get_d, begins_part, flat_begins}
-use Rattle.rules.proofs.Triangles.{triangles_begins, triangles-within, corners_begins}
-use Rattle.rules.proofs.Lattice.{lattice_begins, lattice-within}
+use Rattle.rules.proofs.Triangles.{triangles_begins, triangles_within, corners_begins}
+use Rattle.rules.proofs.Lattice.{lattice_begins, lattice_within}
 use Rattle.rules.proofs.Patches.{Made, mesh_begins, mesh_has, onto_sized, onto_made}
 
 -- a mesh goes on: no fewer triangles or patches, and the numbers of the one begin those of the other
@@ -64,7 +64,7 @@ module _ {A B : Type 0} (S : Source A B) (n : ℕ) {xs ys : List A} (b : Begins 
         count_begins = begins_length on;
         numbers_begin =
             corners_begins (length xs / (n + 3)) _ _
-            (rw (length-flags S.missing S.flag n xs) at (triangles-within r (flags S.missing S.flag n xs)))
+            (rw (length-flags S.missing S.flag n xs) at (triangles_within r (flags S.missing S.flag n xs)))
             (λ i l. ap (vertex_row S) (vertex4_begins S.missing S.flag n b i l)) on;
       }
 
@@ -75,7 +75,7 @@ module _ {A B : Type 0} (S : Source A B) (n : ℕ) {xs ys : List A} (b : Begins 
       record {
         count_begins = begins_length on;
         numbers_begin =
-            corners_begins (length xs / (n + 2)) _ _ (lattice-within (length xs / (n + 2)) row_length)
+            corners_begins (length xs / (n + 2)) _ _ (lattice_within (length xs / (n + 2)) row_length)
             (λ i l. ap (vertex_row S) (vertex5_begins S.missing S.flag n b i l)) on;
       }
 

@@ -15,11 +15,11 @@ use Rattle.records.specs.Format.{Meaning, whole_number, two_low_bits, Format, fo
 use Rattle.records.specs.Flags.{Left, left}
 use Rattle.records.proofs.Readings.{next_some, readings_none}
 use Rattle.records.proofs.Meanings.{Pair, Alike}
-use Rattle.records.proofs.Parting.{PatchKind, type6, type7, readings-part, part_alike}
+use Rattle.records.proofs.Parting.{PatchKind, type6, type7, readings_part, part_alike}
 use Rattle.rules.specs.Patches.{sides}
 use Rattle.rules.specs.Meshes.{Finished, size_after, pieces, patches, patch_mesh}
 use Rattle.rules.proofs.Meshes.{MeshBegins, pieces_none, patch_mesh_begins}
-use Rattle.rules.proofs.RawReading.{patch_format, pieces-reading, type6_each_gives, type7_each_gives}
+use Rattle.rules.proofs.RawReading.{patch_format, pieces_reading, type6_each_gives, type7_each_gives}
 use Rattle.rules.proofs.Alike.{right_of, one_piece, alike_pieces, alike_patch_mesh}
 
 -- ---- the records of a list
@@ -45,14 +45,14 @@ module _ (first coord comp n : ℕ) where
       → 0 < length (pieces 0 two_low_bits own n (readings (patch_format two_low_bits own first coord comp n) (suc k) started b))
   one_more own k started b vs e =
       let r = next_some (patch_format two_low_bits own first coord comp n) started b vs e in
-      rw (pieces-reading two_low_bits own first coord comp n k started b r.0 r.1 (e ∙ ap some r.2)) (omega arith)
+      rw (pieces_reading two_low_bits own first coord comp n k started b r.0 r.1 (e ∙ ap some r.2)) (omega arith)
 
   -- a record that is found is a record of the list
-  found-more : {kind : Kind} {own : ℕ} → PatchKind kind own → (k : ℕ) (started : Bool) (b vs : List ℕ)
+  found_more : {kind : Kind} {own : ℕ} → PatchKind kind own → (k : ℕ) (started : Bool) (b vs : List ℕ)
       → next (format_by two_low_bits kind first coord comp n) started b ≡ some vs
       → 0 < length (pieces 0 two_low_bits own n (readings (format_by two_low_bits kind first coord comp n) (suc k) started b))
-  found-more type6 = one_more 8
-  found-more type7 = one_more 12
+  found_more type6 = one_more 8
+  found_more type7 = one_more 12
 
   each_gives : {kind : Kind} {own : ℕ} → PatchKind kind own → (flag : Meaning) (s : List ℕ)
       → let xs : List ℕ = raw_reading (format_by flag kind first coord comp n) s in
@@ -84,7 +84,7 @@ module _ {kind : Kind} {own : ℕ} (t : PatchKind kind own) (first coord comp n 
 
   goes_on : raw_reading F' s ≡ raw_reading F s ++ rest
   unfolding raw_reading
-  goes_on = readings-part kind first coord comp n h (length (stream s)) (suc (length (stream s))) false (stream s) (omega arith) (omega arith)
+  goes_on = readings_part kind first coord comp n h (length (stream s)) (suc (length (stream s))) false (stream s) (omega arith) (omega arith)
 
   alike : Alike whole_number two_low_bits (size_after own n) (raw_reading F s) (raw_reading F s)
   unfolding raw_reading
@@ -124,10 +124,10 @@ module _ {kind : Kind} {own : ℕ} (t : PatchKind kind own) (first coord comp n 
     part_same q = rw (goes_on, readings_none F' (suc (length (stream s))) e.started e.bits q, append-nil) same_flags
 
     -- and only there have they equally many patches
-    pub part-exactly : (ported.count ≡ published.count) ↔ (next F' e.started e.bits ≡ none)
+    pub part_exactly : (ported.count ≡ published.count) ↔ (next F' e.started e.bits ≡ none)
     unfolding patch_mesh
-    part-exactly = (by_next (next F' e.started e.bits) refl, λ q. ap (λ (m : Finished B). m.count) (part_same q))
+    part_exactly = (by_next (next F' e.started e.bits) refl, λ q. ap (λ (m : Finished B). m.count) (part_same q))
       where
         by_next : (o : Option (List ℕ)) → next F' e.started e.bits ≡ o → ported.count ≡ published.count → next F' e.started e.bits ≡ none
         by_next none q c = q
-        by_next (some vs) q c = absurd (omega (arith, counts, found-more first coord comp n t (length (stream s)) e.started e.bits vs q))
+        by_next (some vs) q c = absurd (omega (arith, counts, found_more first coord comp n t (length (stream s)) e.started e.bits vs q))

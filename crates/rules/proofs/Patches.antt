@@ -15,29 +15,29 @@ use Rattle.rules.proofs.Lists.{map_at, length_at, all_at}
 -- ---- record by record
 
 module _ {P C : Type 0} (T : Table) where
-  pub mesh-ends : (b : Option (Patch P C)) (q : Piece P C) (qs : List (Piece P C)) → patch_of T b q.flag q.body ≡ none → mesh T b (q ∷ qs) ≡ []
+  pub mesh_ends : (b : Option (Patch P C)) (q : Piece P C) (qs : List (Piece P C)) → patch_of T b q.flag q.body ≡ none → mesh T b (q ∷ qs) ≡ []
   unfolding mesh
-  mesh-ends b q qs e = rw (e, mesh)
+  mesh_ends b q qs e = rw (e, mesh)
 
-  pub mesh-more : (b : Option (Patch P C)) (q : Piece P C) (qs : List (Piece P C)) (p : Patch P C)
+  pub mesh_more : (b : Option (Patch P C)) (q : Piece P C) (qs : List (Piece P C)) (p : Patch P C)
       → patch_of T b q.flag q.body ≡ some p → mesh T b (q ∷ qs) ≡ p ∷ mesh T (some p) qs
   unfolding mesh
-  mesh-more b q qs p e = rw (e, mesh)
+  mesh_more b q qs p e = rw (e, mesh)
 
   -- records that go on give patches that go on
-  mesh-append : (b : Option (Patch P C)) (qs rs : List (Piece P C)) → Begins (mesh T b qs) (mesh T b (qs ++ rs))
+  mesh_append : (b : Option (Patch P C)) (qs rs : List (Piece P C)) → Begins (mesh T b qs) (mesh T b (qs ++ rs))
   unfolding mesh
-  mesh-append b [] rs = begins_nothing (mesh T b rs)
-  mesh-append b (q ∷ qs) rs = go (patch_of T b q.flag q.body) refl (λ p. mesh-append (some p) qs rs)
+  mesh_append b [] rs = begins_nothing (mesh T b rs)
+  mesh_append b (q ∷ qs) rs = go (patch_of T b q.flag q.body) refl (λ p. mesh_append (some p) qs rs)
     where
       go : (o : Option (Patch P C)) → patch_of T b q.flag q.body ≡ o
           → ((p : Patch P C) → Begins (mesh T (some p) qs) (mesh T (some p) (qs ++ rs)))
           → Begins (mesh T b (q ∷ qs)) (mesh T b ((q ∷ qs) ++ rs))
-      go none e ih = rw (mesh-ends b q qs e) (begins_nothing (mesh T b ((q ∷ qs) ++ rs)))
-      go (some p) e ih = rw (mesh-more b q qs p e, mesh-more b q (qs ++ rs) p e) (begins_after (p ∷ []) (ih p))
+      go none e ih = rw (mesh_ends b q qs e) (begins_nothing (mesh T b ((q ∷ qs) ++ rs)))
+      go (some p) e ih = rw (mesh_more b q qs p e, mesh_more b q (qs ++ rs) p e) (begins_after (p ∷ []) (ih p))
 
   pub mesh_begins : (b : Option (Patch P C)) {qs rs : List (Piece P C)} → Begins qs rs → Begins (mesh T b qs) (mesh T b rs)
-  mesh_begins b {qs} {rs} p = rw p.is (mesh-append b qs p.rest)
+  mesh_begins b {qs} {rs} p = rw p.is (mesh_append b qs p.rest)
 
 -- ---- decoding
 
@@ -49,8 +49,8 @@ abbrev pub each_piece : {P C Q D : Type 0} → (P → Q) → (C → D) → Piece
 each_piece f g q = record { flag = q.flag; body = each f g q.body }
 
 module _ {P C Q D : Type 0} (f : P → Q) (g : C → D) (T : Table) where
-  onto-each : (b : Patch P C) (s : Places) (o : Patch P C) → onto (each f g b) s (each f g o) ≡ each f g (onto b s o)
-  onto-each b s o = simp (map-append, map_at)
+  onto_each : (b : Patch P C) (s : Places) (o : Patch P C) → onto (each f g b) s (each f g o) ≡ each f g (onto b s o)
+  onto_each b s o = simp (map-append, map_at)
 
   patch_of-each : (b : Option (Patch P C)) (n : ℕ) (o : Patch P C)
       → patch_of T (Option.map (each f g) b) n (each f g o) ≡ Option.map (each f g) (patch_of T b n o)
@@ -61,26 +61,26 @@ module _ {P C Q D : Type 0} (f : P → Q) (g : C → D) (T : Table) where
       go : (s : Option Places)
           → Option.map (λ (s : Places). onto (each f g b) s (each f g o)) s ≡ Option.map (each f g) (Option.map (λ (s : Places). onto b s o) s)
       go none = refl
-      go (some s) = ap some (onto-each b s o)
+      go (some s) = ap some (onto_each b s o)
 
   -- to decode the records or the patches is the same
-  pub mesh-decoded : (b : Option (Patch P C)) (qs : List (Piece P C))
+  pub mesh_decoded : (b : Option (Patch P C)) (qs : List (Piece P C))
       → mesh T (Option.map (each f g) b) (map (each_piece f g) qs) ≡ map (each f g) (mesh T b qs)
   unfolding mesh
-  mesh-decoded b [] = refl
-  mesh-decoded b (q ∷ qs) = go (patch_of T b q.flag q.body) refl (λ p. mesh-decoded (some p) qs)
+  mesh_decoded b [] = refl
+  mesh_decoded b (q ∷ qs) = go (patch_of T b q.flag q.body) refl (λ p. mesh_decoded (some p) qs)
     where
       go : (o : Option (Patch P C)) → patch_of T b q.flag q.body ≡ o
           → ((p : Patch P C) → mesh T (some (each f g p)) (map (each_piece f g) qs) ≡ map (each f g) (mesh T (some p) qs))
           → mesh T (Option.map (each f g) b) (map (each_piece f g) (q ∷ qs)) ≡ map (each f g) (mesh T b (q ∷ qs))
       go none e ih =
           let d = patch_of-each b q.flag q.body ∙ ap (Option.map (each f g)) e in
-          mesh-ends T (Option.map (each f g) b) (each_piece f g q) (map (each_piece f g) qs) d ∙ ap (map (each f g)) (sym (mesh-ends T b q qs e))
+          mesh_ends T (Option.map (each f g) b) (each_piece f g q) (map (each_piece f g) qs) d ∙ ap (map (each f g)) (sym (mesh_ends T b q qs e))
       go (some p) e ih =
           let d = patch_of-each b q.flag q.body ∙ ap (Option.map (each f g)) e in
-          mesh-more T (Option.map (each f g) b) (each_piece f g q) (map (each_piece f g) qs) (each f g p) d
+          mesh_more T (Option.map (each f g) b) (each_piece f g q) (map (each_piece f g) qs) (each f g p) d
           ∙ ap (λ (l : List (Patch Q D)). each f g p ∷ l) (ih p)
-          ∙ ap (map (each f g)) (sym (mesh-more T b q qs p e))
+          ∙ ap (map (each f g)) (sym (mesh_more T b q qs p e))
 
 -- what is written of decoded points and colours
 pub flat_map : {A B D : Type 0} (h : B → List D) (f : A → B) (l : List A) → flat h (map f l) ≡ flat (λ (x : A). h (f x)) l
@@ -128,10 +128,10 @@ module _ {P C : Type 0} (T : Table) (S : Places → Type 0) (W : ℕ → Patch P
     where
       go : (o : Option (Patch P C)) → patch_of T b q.flag q.body ≡ o → ((p : Patch P C) → Q p → All Q (mesh T (some p) qs))
           → All Q (mesh T b (q ∷ qs))
-      go none e ih = rw (mesh-ends T b q qs e) tt
+      go none e ih = rw (mesh_ends T b q qs e) tt
       go (some p) e ih =
           let y = patch_of_has b q.flag q.body p z w.0 e in
-          rw (mesh-more T b q qs p e) (y, ih p y)
+          rw (mesh_more T b q qs p e) (y, ih p y)
 
 module _ {P C : Type 0} where
   -- each point and each colour is of the kind
@@ -194,10 +194,10 @@ module _ {P C : Type 0} (T U : Table) (h : length T ≡ length U) where
     where
       go : (x y : Option (Patch P C)) → patch_of T b q.flag q.body ≡ x → patch_of U c q.flag q.body ≡ y → SameSize x y
           → ((p r : Patch P C) → length (mesh T (some p) qs) ≡ length (mesh U (some r) qs)) → length (mesh T b (q ∷ qs)) ≡ length (mesh U c (q ∷ qs))
-      go none none d e s ih = rw (mesh-ends T b q qs d, mesh-ends U c q qs e)
+      go none none d e s ih = rw (mesh_ends T b q qs d, mesh_ends U c q qs e)
       go none (some r) d e s ih = absurd s
       go (some p) none d e s ih = absurd s
-      go (some p) (some r) d e s ih = rw (mesh-more T b q qs p d, mesh-more U c q qs r e) (ap suc (ih p r))
+      go (some p) (some r) d e s ih = rw (mesh_more T b q qs p d, mesh_more U c q qs r e) (ap suc (ih p r))
 
 -- both tables always give equally many patches
 pub tables_count_equal : {P C : Type 0} (qs : List (Piece P C)) → length (mesh list_sides none qs) ≡ length (mesh sides none qs)

@@ -41,12 +41,12 @@ binary_reader_lem fs = binary_start 0 fs
 -- ---- build_type4_from_array
 
 module _ (us : List ℕ) (a b c : ℕ) where
-  kept-length : length (us ++ (a ∷ b ∷ c ∷ [])) ≡ length us + 3
-  kept-length = length-append us (a ∷ b ∷ c ∷ [])
+  kept_length : length (us ++ (a ∷ b ∷ c ∷ [])) ≡ length us + 3
+  kept_length = length-append us (a ∷ b ∷ c ∷ [])
 
   from_end_lem : (k : ℕ) → k ≤ 3 → from_end (us ++ (a ∷ b ∷ c ∷ [])) k ≡ get_or (a ∷ b ∷ c ∷ []) (3 - k) 0
   from_end_lem k h =
-      let e : length (us ++ (a ∷ b ∷ c ∷ [])) - k ≡ length us + (3 - k) = omega (arith, kept-length) in
+      let e : length (us ++ (a ∷ b ∷ c ∷ [])) - k ≡ length us + (3 - k) = omega (arith, kept_length) in
       rw e (get_or-append-add us (a ∷ b ∷ c ∷ []) (3 - k) 0)
 
   kept_push : (i : ℕ) → (us ++ (a ∷ b ∷ c ∷ [])) ++ (i ∷ []) ≡ (us ++ (a ∷ [])) ++ (b ∷ c ∷ i ∷ [])
@@ -56,14 +56,14 @@ module _ (us : List ℕ) (a b c : ℕ) where
       → list_builder (us ++ (a ∷ b ∷ c ∷ [])) i (1 ∷ fs) ≡ tri b c i ∷ list_builder ((us ++ (a ∷ [])) ++ (b ∷ c ∷ i ∷ [])) (i + 1) fs
   unfolding list_builder
   list_one i fs =
-      rw (le-leb 2 (length (us ++ (a ∷ b ∷ c ∷ []))) (omega (arith, kept-length)))
+      rw (le-leb 2 (length (us ++ (a ∷ b ∷ c ∷ []))) (omega (arith, kept_length)))
       (simp (from_end_lem 2 (omega arith), from_end_lem 1 (omega arith), kept_push i))
 
   list_two : (i : ℕ) (fs : List ℕ)
       → list_builder (us ++ (a ∷ b ∷ c ∷ [])) i (2 ∷ fs) ≡ tri a c i ∷ list_builder ((us ++ (a ∷ [])) ++ (b ∷ c ∷ i ∷ [])) (i + 1) fs
   unfolding list_builder
   list_two i fs =
-      rw (le-leb 3 (length (us ++ (a ∷ b ∷ c ∷ []))) (omega (arith, kept-length)))
+      rw (le-leb 3 (length (us ++ (a ∷ b ∷ c ∷ []))) (omega (arith, kept_length)))
       (simp (from_end_lem 3 (omega arith), from_end_lem 1 (omega arith), kept_push i))
 
 list_after : (us : List ℕ) (a b c i : ℕ) (fs : List ℕ) → list_builder (us ++ (a ∷ b ∷ c ∷ [])) i fs ≡ triangles_from last_three (after a b c) i fs

@@ -19,7 +19,7 @@ use Rattle.records.proofs.Readings.{length-numbers, next_some, readings_none, re
 use Rattle.rules.specs.Triangles.{Rule, triangles}
 use Rattle.rules.specs.Patches.{Patch, Piece, Table, sides, patch_of, mesh}
 use Rattle.rules.specs.Meshes.{Source, size_after, piece, pieces, patches, type4_mesh, type5_mesh, patch_mesh}
-use Rattle.rules.proofs.Patches.{mesh-more}
+use Rattle.rules.proofs.Patches.{mesh_more}
 use Rattle.rules.proofs.Meshes.{MeshBegins, pieces_none, pieces_more, piece_begins, type4_begins, type5_begins, patch_mesh_begins}
 
 -- ---- each record gives a patch
@@ -38,8 +38,8 @@ module _ (flag : Meaning) (own first coord comp n : ℕ) where
   F = patch_format flag own first coord comp n
 
   -- a record has as many numbers as its flag asks for
-  more-size : (started : Bool) (x : ℕ) (ws : List ℕ) → F.more started x ≡ some ws → length ws ≡ size_after own n (flag x)
-  more-size started x ws e =
+  more_size : (started : Bool) (x : ℕ) (ws : List ℕ) → F.more started x ≡ some ws → length ws ≡ size_after own n (flag x)
+  more_size started x ws e =
       patch_size_lem coord comp n (eqb (flag x) 0 || (started && leb (flag x) 3)) (2 * points_after own (flag x)) (colours_after (flag x)) ws e
 
   -- and gives a patch
@@ -57,15 +57,15 @@ module _ (flag : Meaning) (own first coord comp n : ℕ) where
   found k started b = pieces 0 flag own n (readings F k started b)
 
   -- a record of the raw reading is a record of the list
-  pub pieces-reading : (k : ℕ) (started : Bool) (b ws : List ℕ) → F.more started (number (take first b)) ≡ some ws
+  pub pieces_reading : (k : ℕ) (started : Bool) (b ws : List ℕ) → F.more started (number (take first b)) ≡ some ws
       → next F started b ≡ some (first ∷ ws)
       → found (suc k) started b ≡ piece 0 own n (flag (number (take first b))) (numbers ws (drop first b)) ∷ found k true (drop (first + sum ws) b)
   unfolding numbers sum
-  pieces-reading k started b ws q e =
+  pieces_reading k started b ws q e =
       let x : ℕ = number (take first b) in
       let ns : List ℕ = numbers ws (drop first b) in
       let rest : List ℕ = readings F k true (drop (first + sum ws) b) in
-      let l : length ns ≡ size_after own n (flag x) = length-numbers ws (drop first b) ∙ more-size started x ws q in
+      let l : length ns ≡ size_after own n (flag x) = length-numbers ws (drop first b) ∙ more_size started x ws q in
       let on : Begins ns (ns ++ rest) = record { rest = rest; is = refl } in
       rw (readings_some F k started b (first ∷ ws) e)
       (pieces_more 0 own n flag x (ns ++ rest) (omega (arith, length-append ns rest))
@@ -88,8 +88,8 @@ module _ (flag : Meaning) (own first coord comp n : ℕ) where
           let q = piece 0 own n (flag x) (numbers r.0 (drop first b)) in
           let g = more_gives before (flag x) q.body r.0 (ap (λ (t : Bool). F.more t x) h ∙ r.1) in
           rw (
-            pieces-reading k started b r.0 r.1 (e ∙ ap some r.2),
-            mesh-more sides before q (found k true (drop (first + sum r.0) b)) g.0 g.1,
+            pieces_reading k started b r.0 r.1 (e ∙ ap some r.2),
+            mesh_more sides before q (found k true (drop (first + sum r.0) b)) g.0 g.1,
           )
           (ap suc (ih (drop (first + sum r.0) b) g.0))
 

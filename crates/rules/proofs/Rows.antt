@@ -10,7 +10,7 @@ use Rattle.rules.specs.Triangles.{Tri, corners}
 use Rattle.rules.specs.Patches.{Patch, Places, Table, at, onto, patch_row}
 use Rattle.rules.specs.Meshes.{Source, patches, patch_mesh}
 use Rattle.rules.specs.Inner.Sides.{Sized, Fits}
-use Rattle.rules.proofs.Lists.{length_flat_all, flat-at, part_of_flat, all_map}
+use Rattle.rules.proofs.Lists.{length_flat_all, flat_at, part_of_flat, all_map}
 use Rattle.rules.proofs.Patches.{Made}
 use Rattle.rules.proofs.Meshes.{Numbered, patches_numbered}
 
@@ -37,31 +37,31 @@ module _ {P C A : Type 0} (point : P → List A) (colour : C → List A) (a m : 
   -- Where the row of the patch before stands in the output from index q on, that of a joined patch is a copy of the side there, then its own.
   module _ (d : A) (out front back : List A) (q : ℕ) (b : Patch P C) (r : Rows b) (n : length front ≡ q)
       (e : out ≡ front ++ (patch_row point colour b ++ back)) where
-    point-found : (i : ℕ) → i < length b.points → flat point (take 1 (drop i b.points)) ≡ part d out (q + i * a) a
+    point_found : (i : ℕ) → i < length b.points → flat point (take 1 (drop i b.points)) ≡ part d out (q + i * a) a
     unfolding patch_row
-    point-found i h =
+    point_found i h =
         rw (e, append_assoc, ← n) (part_of_flat point d a front b.points (flat colour b.colours ++ back) i r.0 h)
 
-    colour-found : (i : ℕ) → i < length b.colours → flat colour (take 1 (drop i b.colours)) ≡ part d out (q + length b.points * a + i * m) m
+    colour_found : (i : ℕ) → i < length b.colours → flat colour (take 1 (drop i b.colours)) ≡ part d out (q + length b.points * a + i * m) m
     unfolding patch_row
-    colour-found i h =
+    colour_found i h =
         let before : List A = front ++ flat point b.points in
         let l = length_flat_all point a b.points r.0 in
         let k : q + length b.points * a ≡ length before = omega (arith, length-append front (flat point b.points)) in
         rw (e, append_assoc, ← (append_assoc front (flat point b.points) (flat colour b.colours ++ back)), k)
         (part_of_flat colour d m before b.colours back i r.1 h)
 
-    pub onto-row : (s : Places) (o : Patch P C) → AllBelow (length b.points) s.points → AllBelow (length b.colours) s.colours
+    pub onto_row : (s : Places) (o : Patch P C) → AllBelow (length b.points) s.points → AllBelow (length b.colours) s.colours
         → patch_row point colour (onto b s o)
         ≡ (flat (λ (i : ℕ). part d out (q + i * a) a) s.points ++ flat point o.points)
         ++ (flat (λ (i : ℕ). part d out (q + length b.points * a + i * m) m) s.colours ++ flat colour o.colours)
     unfolding patch_row
-    onto-row s o ps cs =
+    onto_row s o ps cs =
         rw (
           flat_append point (at b.points s.points) o.points,
           flat_append colour (at b.colours s.colours) o.colours,
-          flat-at point (λ (i : ℕ). part d out (q + i * a) a) b.points s.points ps point-found,
-          flat-at colour (λ (i : ℕ). part d out (q + length b.points * a + i * m) m) b.colours s.colours cs colour-found,
+          flat_at point (λ (i : ℕ). part d out (q + i * a) a) b.points s.points ps point_found,
+          flat_at colour (λ (i : ℕ). part d out (q + length b.points * a + i * m) m) b.colours s.colours cs colour_found,
         )
 
 -- ---- the patches of a list of numbers

@@ -10,27 +10,27 @@ use Rattle.rules.specs.Clauses.{coons_order, coons, tensor_order, tensor, row_by
 use Rattle.rules.specs.Inner.Sides.{Fits}
 
 -- 8.7.4.5.7 counts from 1
-pub coons-table : map (named coons_order) sides ≡ coons
+pub coons_table : map (named coons_order) sides ≡ coons
 unfolding at flat
-coons-table = refl
+coons_table = refl
 
 -- 8.7.4.5.8 names the same places pij and cij
-pub tensor-table : map (named tensor_order) sides ≡ tensor
+pub tensor_table : map (named tensor_order) sides ≡ tensor
 unfolding at flat
-tensor-table = refl
+tensor_table = refl
 
 module _ (own : Places) where
   -- After a patch whose points and colours go by their names in the clause, flags 1, 2 and 3 give a patch that has first the points and the
   -- colours that the clause's table names, and then its own.
-  pub coons-joined : map (λ (f : ℕ). patch_of sides (some coons_order) f own) (1 ∷ 2 ∷ 3 ∷ [])
+  pub coons_joined : map (λ (f : ℕ). patch_of sides (some coons_order) f own) (1 ∷ 2 ∷ 3 ∷ [])
       ≡ map (λ (side : Places). some (patch (side.points ++ own.points) (side.colours ++ own.colours))) coons
   unfolding at flat
-  coons-joined = refl
+  coons_joined = refl
 
-  pub tensor-joined : map (λ (f : ℕ). patch_of sides (some tensor_order) f own) (1 ∷ 2 ∷ 3 ∷ [])
+  pub tensor_joined : map (λ (f : ℕ). patch_of sides (some tensor_order) f own) (1 ∷ 2 ∷ 3 ∷ [])
       ≡ map (λ (side : Places). some (patch (side.points ++ own.points) (side.colours ++ own.colours))) tensor
   unfolding at flat
-  tensor-joined = refl
+  tensor_joined = refl
 
 -- the stream's order has every point, at the places given here
 pub tensor_order_lem : at tensor_order.points (0 ∷ 1 ∷ 2 ∷ 3 ∷ 11 ∷ 12 ∷ 13 ∷ 4 ∷ 10 ∷ 15 ∷ 14 ∷ 5 ∷ 9 ∷ 8 ∷ 7 ∷ 6 ∷ []) ≡ row_by_row.points

@@ -82,8 +82,8 @@ module _ (r : Rule) (fs : List ℕ) where
   all_good = triangles_from_good r start 0 (length fs) fs tt (omega arith)
 
   -- each triangle's vertices are among those given, and in stream order
-  pub triangles-within : All (CornersBelow (length fs)) (triangles r fs)
-  triangles-within = all_map (Good (length fs)) (CornersBelow (length fs)) (triangles r fs) (λ t g. g.0) all_good
+  pub triangles_within : All (CornersBelow (length fs)) (triangles r fs)
+  triangles_within = all_map (Good (length fs)) (CornersBelow (length fs)) (triangles r fs) (λ t g. g.0) all_good
 
   pub triangles_in_order : All InOrder (triangles r fs)
   triangles_in_order = all_map (Good (length fs)) InOrder (triangles r fs) (λ t g. g.1) all_good
@@ -92,22 +92,22 @@ module _ (r : Rule) (fs : List ℕ) where
 
 module _ {A : Type 0} where
   -- by the rows of the vertices that they have
-  pub corners-same : (n : ℕ) (row row' : ℕ → List A) (ts : List Tri) → All (CornersBelow n) ts → ((i : ℕ) → i < n → row i ≡ row' i)
+  pub corners_same : (n : ℕ) (row row' : ℕ → List A) (ts : List Tri) → All (CornersBelow n) ts → ((i : ℕ) → i < n → row i ≡ row' i)
       → flat (corners row) ts ≡ flat (corners row') ts
   unfolding flat corners
-  corners-same n row row' [] w h = refl
-  corners-same n row row' (t ∷ ts) w h =
+  corners_same n row row' [] w h = refl
+  corners_same n row row' (t ∷ ts) w h =
       let u = w.0 in
-      rw (h t.a u.a_in, h t.b u.b_in, h t.c u.c_in, corners-same n row row' ts w.1 h)
+      rw (h t.a u.a_in, h t.b u.b_in, h t.c u.c_in, corners_same n row row' ts w.1 h)
 
   -- triangles that go on, over vertices that go on
   pub corners_begins : (n : ℕ) (row row' : ℕ → List A) {ts us : List Tri} → All (CornersBelow n) ts → ((i : ℕ) → i < n → row i ≡ row' i)
       → Begins ts us → Begins (flat (corners row) ts) (flat (corners row') us)
-  corners_begins n row row' {ts} w h b = rw (corners-same n row row' ts w h) (flat_begins (corners row') b)
+  corners_begins n row row' {ts} w h b = rw (corners_same n row row' ts w h) (flat_begins (corners row') b)
 
 -- to decode each vertex, or the vertices of the triangles, is the same
-pub corners-decoded : {U A : Type 0} (decode : U → List A) (vertex : ℕ → U) (ts : List Tri)
+pub corners_decoded : {U A : Type 0} (decode : U → List A) (vertex : ℕ → U) (ts : List Tri)
     → flat (corners (λ (i : ℕ). decode (vertex i))) ts ≡ flat decode (flat (corners (λ (i : ℕ). vertex i ∷ [])) ts)
 unfolding flat corners
-corners-decoded decode vertex [] = refl
-corners-decoded decode vertex (t ∷ ts) = rw (append_assoc, append_assoc, corners-decoded decode vertex ts)
+corners_decoded decode vertex [] = refl
+corners_decoded decode vertex (t ∷ ts) = rw (append_assoc, append_assoc, corners_decoded decode vertex ts)

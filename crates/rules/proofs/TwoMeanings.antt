@@ -56,16 +56,16 @@ module _ (flag flag' : Meaning) where
       (same_from xs (go s (flag x) i).next (i + 1) q.1)
 
   -- two meanings that agree on the numbers read where a flag is looked at give the same triangles
-  pub same-triangles : (xs : List ℕ) → All (λ (x : ℕ). flag x ≡ flag' x) (looked_at flag start 0 xs)
+  pub same_triangles : (xs : List ℕ) → All (λ (x : ℕ). flag x ≡ flag' x) (looked_at flag start 0 xs)
       → triangles triangle_before (map flag xs) ≡ triangles triangle_before (map flag' xs)
   unfolding triangles
-  same-triangles xs h = same_from xs start 0 h
+  same_triangles xs h = same_from xs start 0 h
 
 -- numbers below 4 where a flag is looked at: the whole number and its two low bits give the same triangles
 pub below_4_same : (xs : List ℕ) → All (λ (x : ℕ). x < 4) (looked_at whole_number start 0 xs)
     → triangles triangle_before xs ≡ triangles triangle_before (map two_low_bits xs)
 below_4_same xs h =
-    ap (triangles triangle_before) (sym (map-id xs)) ∙ same-triangles whole_number two_low_bits xs
+    ap (triangles triangle_before) (sym (map-id xs)) ∙ same_triangles whole_number two_low_bits xs
     (all_map (λ (x : ℕ). x < 4) (λ (x : ℕ). whole_number x ≡ two_low_bits x) (looked_at whole_number start 0 xs) (λ x l. sym (mod-eq_of_lt l)) h)
 
 -- ---- a vertex that is dropped is in no triangle
@@ -172,14 +172,14 @@ exactly (x ∷ xs) s i w =
     (exactly xs (go s x i).next (i + 1) (λ j l. (step_without s x j i (w j (omega arith)) (omega arith)).0))
 
 -- the whole number and its two low bits give the same triangles exactly where they do not part
-pub parts-exactly : (xs : List ℕ)
+pub parts_exactly : (xs : List ℕ)
     → (triangles triangle_before xs ≡ triangles triangle_before (map two_low_bits xs)) ↔ (parts start 0 xs ≡ false)
 unfolding triangles Without
-parts-exactly xs = exactly xs start 0 (λ j l. tt)
+parts_exactly xs = exactly xs start 0 (λ j l. tt)
 
 -- numbers below 4 where a flag is looked at: the two never part
 pub below_4_no_part : (xs : List ℕ) → All (λ (x : ℕ). x < 4) (looked_at whole_number start 0 xs) → parts start 0 xs ≡ false
-below_4_no_part xs h = (parts-exactly xs).0 (below_4_same xs h)
+below_4_no_part xs h = (parts_exactly xs).0 (below_4_same xs h)
 
 -- by its two low bits a flag of 4 begins a triangle, and one of 7 drops its vertex; as whole numbers both drop theirs
 pub four_and_seven : (triangles triangle_before (map two_low_bits (4 ∷ 0 ∷ 0 ∷ 7 ∷ 5 ∷ [])) ≡ tri 0 1 2 ∷ tri 1 2 4 ∷ [])

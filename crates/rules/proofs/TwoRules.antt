@@ -12,9 +12,9 @@ use Rattle.rules.proofs.Triangles.{Ordered}
 -- ---- where they part
 
 -- the same triangle, by flag g after flag f
-same-triangle : (t : Tri) (xs ys : List Tri) (f g : ℕ) (l : List ℕ) → (f ≡ 2 → g ≡ 2 → ⊥)
+same_triangle : (t : Tri) (xs ys : List Tri) (f g : ℕ) (l : List ℕ) → (f ≡ 2 → g ≡ 2 → ⊥)
     → ((xs ≡ ys) ↔ NoTwoTwos (g ∷ l)) → (t ∷ xs ≡ t ∷ ys) ↔ NoTwoTwos (f ∷ g ∷ l)
-same-triangle t xs ys f g l h e =
+same_triangle t xs ys f g l h e =
     ((λ p. (h, e.0 (cc))), (λ q. ap (λ (l : List Tri). t ∷ l) (e.1 q.1)))
 
 first_vertex : (t u : Tri) (xs ys : List Tri) → t ∷ xs ≡ u ∷ ys → t.a ≡ u.a
@@ -38,12 +38,12 @@ mutual
   alike (suc f ∷ fs) start i g o h = alike fs start (i + 1) g tt tt
   alike (f ∷ fs) (one a) i g o h = alike fs (two a i) (i + 1) g (omega arith) tt
   alike (f ∷ fs) (two a b) i g o h =
-      same-triangle _ _ _ g 0 (flags_used (after a b i) (i + 1) fs) (λ p q. omega arith) (alike fs (after a b i) (i + 1) 0 (omega arith) (omega arith))
+      same_triangle _ _ _ g 0 (flags_used (after a b i) (i + 1) fs) (λ p q. omega arith) (alike fs (after a b i) (i + 1) 0 (omega arith) (omega arith))
   alike (zero ∷ fs) (after a b c) i g o h = alike fs (one i) (i + 1) g (omega arith) tt
   alike (suc zero ∷ fs) (after a b c) i g o h =
-      same-triangle _ _ _ g 1 (flags_used (after b c i) (i + 1) fs) (λ p q. omega arith) (alike fs (after b c i) (i + 1) 1 (omega arith) (omega arith))
+      same_triangle _ _ _ g 1 (flags_used (after b c i) (i + 1) fs) (λ p q. omega arith) (alike fs (after b c i) (i + 1) 1 (omega arith) (omega arith))
   alike (suc (suc zero) ∷ fs) (after a b c) i g o h =
-      same-triangle _ _ _ g 2 (flags_used (after a c i) (i + 1) fs) (λ p q. h p) (apart fs a b c i (i + 1) (omega arith) (omega arith))
+      same_triangle _ _ _ g 2 (flags_used (after a c i) (i + 1) fs) (λ p q. h p) (apart fs a b c i (i + 1) (omega arith) (omega arith))
   alike (suc (suc (suc f)) ∷ fs) (after a b c) i g o h = alike fs (after a b c) (i + 1) g (omega arith) h
 
   apart : (fs : List ℕ) (a d b c i : ℕ) → (a ≡ d → ⊥) → Ordered (after a b c) i
@@ -51,7 +51,7 @@ mutual
   apart [] a d b c i h o = ((λ e. tt), (λ e. refl))
   apart (zero ∷ fs) a d b c i h o = alike fs (one i) (i + 1) 2 (omega arith) tt
   apart (suc zero ∷ fs) a d b c i h o =
-      same-triangle _ _ _ 2 1 (flags_used (after b c i) (i + 1) fs) (λ p q. omega arith) (alike fs (after b c i) (i + 1) 1 (omega arith) (omega arith))
+      same_triangle _ _ _ 2 1 (flags_used (after b c i) (i + 1) fs) (λ p q. omega arith) (alike fs (after b c i) (i + 1) 1 (omega arith) (omega arith))
   apart (suc (suc zero) ∷ fs) a d b c i h o =
       ((λ e. absurd (h (sym (first_vertex (tri d c i) (tri a c i) _ _ e)))), (λ q. absurd (q.0 refl refl)))
   apart (suc (suc (suc f)) ∷ fs) a d b c i h o = apart fs a d b c (i + 1) h (omega arith)
@@ -95,18 +95,18 @@ step_loose triangle_before (after a b c) (suc (suc zero)) i = (refl, refl)
 step_loose last_three (after a b c) (suc (suc zero)) i = (refl, refl)
 step_loose r (after a b c) (suc (suc (suc f))) i = (refl, refl)
 
-ends-from : Stand → ℕ → List ℕ → List (List ℕ)
-ends-from s i [] = []
-ends-from s i (f ∷ fs) = map ends (step triangle_before s f i).gives ++ ends-from (loose (step triangle_before s f i).next) (i + 1) fs
+ends_from : Stand → ℕ → List ℕ → List (List ℕ)
+ends_from s i [] = []
+ends_from s i (f ∷ fs) = map ends (step triangle_before s f i).gives ++ ends_from (loose (step triangle_before s f i).next) (i + 1) fs
 
-ends_of_triangles : (r : Rule) (s : Stand) (i : ℕ) (fs : List ℕ) → map ends (triangles_from r s i fs) ≡ ends-from (loose s) i fs
-unfolding triangles_from ends-from
+ends_of_triangles : (r : Rule) (s : Stand) (i : ℕ) (fs : List ℕ) → map ends (triangles_from r s i fs) ≡ ends_from (loose s) i fs
+unfolding triangles_from ends_from
 ends_of_triangles r s i [] = refl
 ends_of_triangles r s i (f ∷ fs) =
     let q = step_loose r s f i in
     map-append ends (step r s f i).gives (triangles_from r (step r s f i).next (i + 1) fs)
     ∙ ap₂ (λ (x y : List (List ℕ)). x ++ y) q.1
-    (ends_of_triangles r (step r s f i).next (i + 1) fs ∙ ap (λ (u : Stand). ends-from u (i + 1) fs) q.0)
+    (ends_of_triangles r (step r s f i).next (i + 1) fs ∙ ap (λ (u : Stand). ends_from u (i + 1) fs) q.0)
 
 -- the two rules never differ but in a triangle's first vertex
 pub only_first_differs : (fs : List ℕ) → map ends (triangles last_three fs) ≡ map ends (triangles triangle_before fs)

@@ -72,9 +72,9 @@ module _ (r : Rule) (fs : List ℕ) where
   last_kept triangle_before done t i = (done, refl)
   last_kept last_three done t i = (done, t.a, refl)
 
-  stand-kept : (rule : Rule) (t : Tri) (i : ℕ) → kept rule t.a t.b t.c i ≡ stand_of (some (kept_of rule t i))
-  stand-kept triangle_before t i = refl
-  stand-kept last_three t i = refl
+  stand_kept : (rule : Rule) (t : Tri) (i : ℕ) → kept rule t.a t.b t.c i ≡ stand_of (some (kept_of rule t i))
+  stand_kept triangle_before t i = refl
+  stand_kept last_three t i = refl
 
   -- ---- flag 0
 
@@ -122,7 +122,7 @@ module _ (r : Rule) (fs : List ℕ) where
       let u : Tri = tri t.a t.c i in
       let e : drop i fs ≡ 2 ∷ drop (i + 1) fs = rw (here i h, z) in
       goes (i + 1) (u ∷ []) (some (kept_of r t i)) w
-      (ap (triangles_from r (stand_of (some t)) i) e ∙ ap (λ (s : Stand). u ∷ triangles_from r s (i + 1) (drop (i + 1) fs)) (stand-kept r t i)) (last_kept r done t i)
+      (ap (triangles_from r (stand_of (some t)) i) e ∙ ap (λ (s : Stand). u ∷ triangles_from r s (i + 1) (drop (i + 1) fs)) (stand_kept r t i)) (last_kept r done t i)
 
   -- ---- a vertex that is dropped
 

@@ -1,4 +1,4 @@
--- Type 5, the lattice_form_lem triangle mesh: ISO 32000-1, 8.7.4.5.6, in the order of document 01. A vertex goes by its place in the data,
+-- Type 5, the lattice-form triangle mesh: ISO 32000-1, 8.7.4.5.6, in the order of document 01. A vertex goes by its place in the data,
 -- counted from 0.
 use Rattle.std.specs.Prelude.{List, [], ◌∷◌, ℕ, ◌+◌, ◌-◌, ◌*◌, ◌/◌}
 use Rattle.lists.specs.Lists.{joined}

@@ -1,4 +1,4 @@
--- Type 4, the free_form_lem triangle mesh: ISO 32000-1, 8.7.4.5.5. A vertex goes by its place in the data, counted from 0.
+-- Type 4, the free-form triangle mesh: ISO 32000-1, 8.7.4.5.5. A vertex goes by its place in the data, counted from 0.
 use Rattle.std.specs.Prelude.{List, [], ◌∷◌, ◌++◌, ℕ, zero, suc, ◌+◌}
 
 -- a triangle, by its three vertices

@@ -26,7 +26,7 @@ use Rattle.rules.proofs.Tables.{sides_fit}
 use Rattle.rules.proofs.Patches.{each}
 use Rattle.rules.proofs.Meshes.{Numbered, patches_numbered}
 use Rattle.meshes.specs.Decoded.{decoded, by_decode}
-use Rattle.meshes.proofs.Standing.{reads-decode}
+use Rattle.meshes.proofs.Standing.{reads_decode}
 use Rattle.tensor.specs.Turning.{raw, rounded, place_of, coordinate, tensor_patch, inner_point, inner_names}
 use Rattle.tensor.specs.Outcomes.{read_patches}
 use Rattle.tensor.specs.Formulas.{p11, p12, p21, p22, inner_at, ninth, ninefold}
@@ -219,19 +219,19 @@ module _ (w comp n : ℕ) (entries : List Float) (some_bits : 1 ≤ w) (few_bits
   abbrev decode : Source ℕ Float
   decode = by_decode whole_number (plain w comp entries)
 
-  decoded-point : (point : List ℕ) → length point ≡ 2 → AllBelow (2 ^ w) point → decoded (plain w comp entries) 0 point ≡ map exactly point
+  decoded_point : (point : List ℕ) → length point ≡ 2 → AllBelow (2 ^ w) point → decoded (plain w comp entries) 0 point ≡ map exactly point
   unfolding decoded
-  decoded-point [] e a = absurd (omega arith)
-  decoded-point (x ∷ []) e a = absurd (omega arith)
-  decoded-point (x ∷ y ∷ []) e a =
+  decoded_point [] e a = absurd (omega arith)
+  decoded_point (x ∷ []) e a = absurd (omega arith)
+  decoded_point (x ∷ y ∷ []) e a =
       ap₂ (λ (u v : Float). u ∷ v ∷ []) (exact w x some_bits few_bits a.0) (exact w y some_bits few_bits a.1.0)
-  decoded-point (x ∷ y ∷ z ∷ point) e a = absurd (omega arith)
+  decoded_point (x ∷ y ∷ z ∷ point) e a = absurd (omega arith)
 
   decoded_points : (points : List (List ℕ)) → All (λ (point : List ℕ). length point ≡ 2) points → All (AllBelow (2 ^ w)) points
       → map (decoded (plain w comp entries) 0) points ≡ map (map exactly) points
   decoded_points [] e a = refl
   decoded_points (p ∷ points) e a =
-      ap₂ (λ (u : List Float) (us : List (List Float)). u ∷ us) (decoded-point p e.0 a.0) (decoded_points points e.1 a.1)
+      ap₂ (λ (u : List Float) (us : List (List Float)). u ∷ us) (decoded_point p e.0 a.0) (decoded_points points e.1 a.1)
 
   small_patch : (p : Patch (List ℕ) (List ℕ)) → Numbered 12 4 n p → PointsBelow (2 ^ w) p → Small p
   small_patch p h a =
@@ -256,6 +256,6 @@ module _ (w comp n : ℕ) (entries : List Float) (some_bits : 1 ≤ w) (few_bits
       (map (tensor_patch rounded) (read_patches n (patch_mesh sides 8 (by_decode whole_number (plain w comp entries)) n xs).numbers))
   raw_and_f64_agree first s =
       let xs : List ℕ = raw_reading (format Six first w comp n) s in
-      let reads = reads-decode whole_number (plain w comp entries) in
+      let reads = reads_decode whole_number (plain w comp entries) in
       rw (taken_apart decode n reads.point_sized (reads.colour_sized n) xs)
       (each_agrees (patches 0 sides whole_number 8 n xs) (patches_numbered 0 whole_number 8 n sides sides_fit.0 xs) (coordinates_below first w comp n s))

@@ -19,7 +19,7 @@ use Rattle.rules.specs.Patches.{Patch}
 use Rattle.rules.proofs.Meshes.{Numbered}
 use Rattle.tensor.specs.Turning.{Turning, tensor_patch, numbers_of}
 use Rattle.tensor.specs.Outcomes.{turned}
-use Rattle.tensor.proofs.Rows.{length-rows}
+use Rattle.tensor.proofs.Rows.{length_rows}
 
 -- the code's test of a remainder
 pub some_left : (rest : ℕ) → 0 < rest → eqb rest 0 ≡ false
@@ -54,7 +54,7 @@ module _ {A B : Type 0} (T : Turning A B) (n size : ℕ) (whole : Bool) (ps : Li
         unfolding turned
         small_output m row r all e h =
             simp (le-ltb _ _ few, le-ltb _ _ short, is_whole)
-            (no_room_for (length ps) (flat (λ p. numbers_of (tensor_patch T p)) ps) row (length-rows T m ps all ∙ ap (λ (k : ℕ). length ps * k) (sym r)) e h)
+            (no_room_for (length ps) (flat (λ p. numbers_of (tensor_patch T p)) ps) row (length_rows T m ps all ∙ ap (λ (k : ℕ). length ps * k) (sym r)) e h)
 
         pub wrote_all : {count : ℕ} {o : List B} {p : ℕ} → count ≡ length ps → Written l o 0 (flat (λ p. numbers_of (tensor_patch T p)) ps) p
             → Done (turned T n size whole ps (length l)) l (Wrote count) o

@@ -23,7 +23,7 @@ use Rattle.rules.specs.Meshes.{groups, piece, pieces, patches}
 use Rattle.rules.proofs.Lists.{all_joined, all_at}
 use Rattle.rules.proofs.Patches.{mesh_has}
 use Rattle.rules.proofs.Meshes.{pieces_none}
-use Rattle.rules.proofs.RawReading.{pieces-reading}
+use Rattle.rules.proofs.RawReading.{pieces_reading}
 
 pub all_get_d : {A : Type 0} (P : A → Type 0) (d : A) (l : List A) (i : ℕ) → All P l → i < length l → P (get_or l i d)
 all_get_d P d [] i a h = absurd (omega arith)
@@ -98,7 +98,7 @@ module _ (first w comp n : ℕ) where
       go (some vs) e ih =
           let r = next_some F started b vs e in
           let x : ℕ = number (take first b) in
-          rw (pieces-reading whole_number 8 first w comp n k started b r.0 r.1 (e ∙ ap some r.2)) (
+          rw (pieces_reading whole_number 8 first w comp n k started b r.0 r.1 (e ∙ ap some r.2)) (
             rw (widths_after_lem started x r.0 r.1) (piece_below x (drop first b) (all_drop _ first b h)),
             ih (drop (first + sum r.0) b) (all_drop _ (first + sum r.0) b h),
           )

@@ -9,7 +9,7 @@ use lib.Ieee.{Float, nan}
 use lib.ListN.{length}
 use Rattle.lists.specs.Lists.{joined, part, flat, All}
 use Rattle.lists.specs.Writing.{Written}
-use Rattle.lists.proofs.Pieces.{joined_same, length_singles, length_part, flat-joined}
+use Rattle.lists.proofs.Pieces.{joined_same, length_singles, length_part, flat_joined}
 use Rattle.lists.proofs.Parts.{written_whole}
 use Rattle.rules.specs.Patches.{Patch, patch}
 use Rattle.rules.specs.Meshes.{groups}
@@ -18,7 +18,7 @@ use Rattle.rules.proofs.Meshes.{Numbered, length-groups}
 use Rattle.tensor.specs.Turning.{rounded, tensor_patch, numbers_of}
 use Rattle.tensor.specs.Outcomes.{coons_size, read_patches}
 use Rattle.tensor.specs.Inner.Placing.{spaced, inner_along}
-use Rattle.tensor.proofs.Rows.{groups_of_part, flat-groups, turned_written}
+use Rattle.tensor.proofs.Rows.{groups_of_part, flat_groups, turned_written}
 
 -- the patch that begins at index from, and what it is written as
 abbrev patch_at : ℕ → List Float → ℕ → Patch (List Float) (List Float)
@@ -52,7 +52,7 @@ float_written n vs from {start} {border} {l} {a} {b} {c} {o} {at} {p} {q} {r} si
     ap (λ (l : List Float). groups nan l 0 12 2) is ∙ groups_of_part nan vs from 12 2 in
     let border-as-is : Written l a at (map rounded.border (part nan border 0 24)) p = rw map-id bordered in
     let colours-as-they-are : Written c o (p + 8) (map rounded.colour (flat (λ x. x) (patch_at n vs from).colours)) r =
-    rw (map-id, flat-groups nan vs (from + 24) 4 (8 + n)) coloured in
+    rw (map-id, flat_groups nan vs (from + 24) 4 (8 + n)) coloured in
     turned_written rounded (patch_at n vs from) border points border-as-is along-x along-y colours-as-they-are room
 
 -- ---- all rows
@@ -65,7 +65,7 @@ rows_read n vs count h =
     let all : ℕ = length vs / coons_size n in
     let times : all ≡ count = ap (λ (k : ℕ). k / coons_size n) h ∙ mul-div_cancel count {n = coons_size n} (omega arith) in
     sym
-    (flat-joined (λ p. numbers_of (tensor_patch rounded p)) all (λ (k : ℕ). patch_at n vs (k * coons_size n) ∷ [])
+    (flat_joined (λ p. numbers_of (tensor_patch rounded p)) all (λ (k : ℕ). patch_at n vs (k * coons_size n) ∷ [])
     ∙ joined_same all (λ (k : ℕ). row k ++ []) row (λ k b. append-nil (row k))
     ∙ ap (λ (c : ℕ). joined c row) times)
 

@@ -18,9 +18,9 @@ module _ {A : Type 0} where
   set-behind (y ∷ front) l i x =
       ap (λ (k : ℕ). set (y ∷ (front ++ l)) k x) (suc-add (length front) i) ∙ ap (λ (m : List A). y ∷ m) (set-behind front l i x)
 
-  spaced-behind : (front l : List A) (i : ℕ) (xs : List A) → spaced (front ++ l) (length front + i) xs ≡ front ++ spaced l i xs
-  spaced-behind front l i [] = refl
-  spaced-behind front l i (x ∷ xs) = rw (set-behind front l i x, add_assoc) (spaced-behind front (set l i x) (i + 2) xs)
+  spaced_behind : (front l : List A) (i : ℕ) (xs : List A) → spaced (front ++ l) (length front + i) xs ≡ front ++ spaced l i xs
+  spaced_behind front l i [] = refl
+  spaced_behind front l i (x ∷ xs) = rw (set-behind front l i x, add_assoc) (spaced_behind front (set l i x) (i + 2) xs)
 
   module _ (x0 x1 x2 x3 y0 y1 y2 y3 : A) where
     abbrev pub every_second : List A → ℕ → List A
@@ -46,9 +46,9 @@ module _ {A : Type 0} where
         let ys : List A = y0 ∷ y1 ∷ y2 ∷ y3 ∷ [] in
         let some : List A = spaced l 0 xs in
         let first : spaced (front ++ l) at xs ≡ front ++ some =
-        subst (λ (i : ℕ). spaced (front ++ l) i xs ≡ front ++ some) (add-zero (length front) ∙ e) (spaced-behind front l 0 xs) in
+        subst (λ (i : ℕ). spaced (front ++ l) i xs ≡ front ++ some) (add-zero (length front) ∙ e) (spaced_behind front l 0 xs) in
         let second : spaced (front ++ some) (at + 1) ys ≡ front ++ spaced some 1 ys =
-        subst (λ (i : ℕ). spaced (front ++ some) (i + 1) ys ≡ front ++ spaced some 1 ys) e (spaced-behind front some 1 ys) in
+        subst (λ (i : ℕ). spaced (front ++ some) (i + 1) ys ≡ front ++ spaced some 1 ys) e (spaced_behind front some 1 ys) in
         ap (λ (m : List A). spaced m (at + 1) ys) first ∙ second
 
     -- two fours, one from at and the other from at + 1

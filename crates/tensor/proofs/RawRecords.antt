@@ -30,10 +30,10 @@ module _ (n : ℕ) where
   records_none zero started = refl
   records_none (suc k) started = refl
 
-  records-more : (k : ℕ) (started : Bool) (x coords colours : ℕ) (ns rest : List ℕ) → shape_of Six started x ≡ Follows coords colours
+  records_more : (k : ℕ) (started : Bool) (x coords colours : ℕ) (ns rest : List ℕ) → shape_of Six started x ≡ Follows coords colours
       → length ns ≡ coords + colours * n → whole_records (suc k) n started (x ∷ (ns ++ rest)) ≡ whole_records k n true rest
   unfolding whole_records
-  records-more k started x coords colours ns rest e l =
+  records_more k started x coords colours ns rest e l =
       let all : coords + colours * n ≤ length (ns ++ rest) = rw length-append (omega arith) in
       rw (e, whole_records, le-leb _ _ all, drop_at ns rest (coords + colours * n) l)
 
@@ -50,15 +50,15 @@ module _ (n : ℕ) where
         go : (s : Shape) → shape_of Six started x ≡ s → widths_of coord comp n s ≡ some ws → whole_records (suc fuel) n started (x ∷ (ns ++ rest)) ≡ true
         go (Follows coords colours) q e =
             let size : length ws ≡ coords + colours * n = rw (← some-injective _ ws e) (simp (length-append, length-replicate)) in
-            records-more fuel started x coords colours ns rest q (l ∙ size) ∙ ih fuel (omega (arith, length-append ns rest))
+            records_more fuel started x coords colours ns rest q (l ∙ size) ∙ ih fuel (omega (arith, length-append ns rest))
         go Ends q e = absurd (none-ne-some ws e)
 
     -- any bound that is no less than the length will do
-    readings-whole : (k fuel : ℕ) (started : Bool) (b : List ℕ) → length (readings F k started b) ≤ fuel
+    readings_whole : (k fuel : ℕ) (started : Bool) (b : List ℕ) → length (readings F k started b) ≤ fuel
         → whole_records fuel n started (readings F k started b) ≡ true
     unfolding readings numbers
-    readings-whole zero fuel started b h = records_none fuel started
-    readings-whole (suc k) fuel started b h = go (next F started b) refl (λ c m. readings-whole k m true c)
+    readings_whole zero fuel started b h = records_none fuel started
+    readings_whole (suc k) fuel started b h = go (next F started b) refl (λ c m. readings_whole k m true c)
       where
         go : (o : Option (List ℕ)) → next F started b ≡ o
             → ((c : List ℕ) (m : ℕ) → length (readings F k true c) ≤ m → whole_records m n true (readings F k true c) ≡ true)
@@ -100,7 +100,7 @@ module _ (first coord comp n : ℕ) (s : List ℕ) where
 
   pub reading_is_records : whole_records (length reading) n false reading ≡ true
   unfolding raw_reading
-  reading_is_records = readings-whole n first coord comp (length (stream s)) (length reading) false (stream s) (omega arith)
+  reading_is_records = readings_whole n first coord comp (length (stream s)) (length reading) false (stream s) (omega arith)
 
   pub never_refused_for_records : (room : ℕ) → coons_to_tensor_raw n reading room ≡ refused Record → ⊥
   unfolding coons_to_tensor_raw

@@ -38,35 +38,35 @@ module _ {A : Type 0} (d : A) (l : List A) where
       (ap (λ (j : ℕ). part d (part d l from (k * m)) j m) (zero-add (i * m))
       ∙ part_of_part from (k * m) (i * m) m (omega (arith, mul-le-mul_right m b, suc-mul i m))))
 
-  pub flat-groups : (from k m : ℕ) → flat (λ x. x) (groups d l from k m) ≡ part d l from (k * m)
+  pub flat_groups : (from k m : ℕ) → flat (λ x. x) (groups d l from k m) ≡ part d l from (k * m)
   unfolding groups flat joined part
-  flat-groups from zero m = rw zero-mul
-  flat-groups from (suc k) m =
+  flat_groups from zero m = rw zero-mul
+  flat_groups from (suc k) m =
       flat_append (λ (x : List A). x) (groups d l from k m) (part d l (from + k * m) m ∷ [])
-      ∙ ap₂ (λ (x y : List A). x ++ y) (flat-groups from k m) (append-nil (part d l (from + k * m) m))
+      ∙ ap₂ (λ (x y : List A). x ++ y) (flat_groups from k m) (append-nil (part d l (from + k * m) m))
       ∙ sym (part_then d l from (k * m) m)
       ∙ ap (part d l from) (sym (suc-mul k m))
 
 -- ---- a patch
 
-flat-each : {A B : Type 0} (f : A → B) (xs : List (List A)) → flat (λ x. x) (map (map f) xs) ≡ map f (flat (λ x. x) xs)
+flat_each : {A B : Type 0} (f : A → B) (xs : List (List A)) → flat (λ x. x) (map (map f) xs) ≡ map f (flat (λ x. x) xs)
 unfolding flat
-flat-each f [] = refl
-flat-each f (x ∷ xs) = rw (flat-each f xs, map-append)
+flat_each f [] = refl
+flat_each f (x ∷ xs) = rw (flat_each f xs, map-append)
 
 module _ {A B : Type 0} (T : Turning A B) where
   -- its border, the inner four, its colours
-  pub row-parts : (p : Patch (List A) (List A))
+  pub row_parts : (p : Patch (List A) (List A))
       → numbers_of (tensor_patch T p)
       ≡ map T.border (flat (λ x. x) p.points)
       ++ (flat (λ x. x) (map (inner_point T p.points) inner_names) ++ map T.colour (flat (λ x. x) p.colours))
   unfolding patch_row tensor_patch
-  row-parts p =
+  row_parts p =
       let inner : List (List B) = map (inner_point T p.points) inner_names in
       ap₂ (λ (x y : List B). x ++ y)
       (flat_append (λ (x : List B). x) (map (map T.border) p.points) inner
-      ∙ ap (λ (x : List B). x ++ flat (λ (y : List B). y) inner) (flat-each T.border p.points))
-      (flat-each T.colour p.colours)
+      ∙ ap (λ (x : List B). x ++ flat (λ (y : List B). y) inner) (flat_each T.border p.points))
+      (flat_each T.colour p.colours)
       ∙ append_assoc (map T.border (flat (λ x. x) p.points)) (flat (λ x. x) inner) (map T.colour (flat (λ x. x) p.colours))
 
   -- the border, the inner four along one axis and along the other, the colours
@@ -80,10 +80,10 @@ module _ {A B : Type 0} (T : Turning A B) where
   turned_written p border {l} {a} {b} {c} {o} {at} {q} {r} points bordered along-x along-y coloured room =
       let long = written_length bordered in
       let is : part T.missing border 0 24 ≡ flat (λ x. x) p.points =
-      sym (flat-groups T.missing border 0 12 2) ∙ ap (flat (λ (x : List A). x)) points in
+      sym (flat_groups T.missing border 0 12 2) ∙ ap (flat (λ (x : List A). x)) points in
       let placed : Written a c q (flat (λ x. x) (map (inner_point T p.points) inner_names)) (q + 8) =
       rw (along-y, along-x, points) (inner_placed T p.points a q (omega arith)) in
-      rw (row-parts p) (written_then (rw is at bordered) (written_then placed coloured))
+      rw (row_parts p) (written_then (rw is at bordered) (written_then placed coloured))
 
   pub length-row : (m : ℕ) (p : Patch (List A) (List A)) → Numbered 12 4 m p → length (numbers_of (tensor_patch T p)) ≡ 32 + 4 * m
   unfolding flat
@@ -91,10 +91,10 @@ module _ {A B : Type 0} (T : Turning A B) where
       let points = length_flat_all (λ (x : List A). x) 2 p.points h.1.0 in
       let colours = length_flat_all (λ (x : List A). x) m p.colours h.1.1 in
       let four : length p.colours * m ≡ 4 * m = ap (λ (k : ℕ). k * m) h.0.1 in
-      simp (row-parts p, length-append, length-map) (omega arith)
+      simp (row_parts p, length-append, length-map) (omega arith)
 
   -- every row is as long
-  pub length-rows : (m : ℕ) (ps : List (Patch (List A) (List A))) → All (Numbered 12 4 m) ps
+  pub length_rows : (m : ℕ) (ps : List (Patch (List A) (List A))) → All (Numbered 12 4 m) ps
       → length (flat (λ p. numbers_of (tensor_patch T p)) ps) ≡ length ps * (32 + 4 * m)
-  length-rows m ps h =
+  length_rows m ps h =
       length_flat_all (λ (p : Patch (List A) (List A)). numbers_of (tensor_patch T p)) (32 + 4 * m) ps (all_map _ _ ps (length-row m) h)

@@ -15,7 +15,7 @@ use Rattle.rules.specs.Meshes.{pieces, patches}
 use Rattle.rules.specs.Inner.Sides.{Sized, Fits}
 use Rattle.rules.proofs.Lists.{all_map, map_at, length_at}
 use Rattle.rules.proofs.Tables.{sides_fit}
-use Rattle.rules.proofs.Patches.{mesh-ends, mesh-more, all_found, Before, patch_of_has, onto_sized}
+use Rattle.rules.proofs.Patches.{mesh_ends, mesh_more, all_found, Before, patch_of_has, onto_sized}
 use Rattle.rules.proofs.Meshes.{PieceWhole, to_whole}
 use Rattle.tensor.specs.Turning.{Turning, raw, inner_names, inner_point, tensor_patch}
 
@@ -118,32 +118,32 @@ module _ {A B : Type 0} (T : Turning A B) where
   unfolding tensor_patch
   turned_sized p z = (simp (length-append, length-map, z.0), simp (length-map, z.1))
 
-  piece-whole : (f : ℕ) (p : Coons) → Sized 12 4 p → Whole 12 (tensor_piece f p)
-  piece-whole zero p z = turned_sized p z
-  piece-whole (suc f) p z = let y = turned_sized p z in (simp (length-drop, y.0), simp (length-drop, y.1))
+  piece_whole : (f : ℕ) (p : Coons) → Sized 12 4 p → Whole 12 (tensor_piece f p)
+  piece_whole zero p z = turned_sized p z
+  piece_whole (suc f) p z = let y = turned_sized p z in (simp (length-drop, y.0), simp (length-drop, y.1))
 
   -- the turned patches of a Type 6 mesh are the Type 7 mesh of their own records, by the same table and the same flags
   abbrev pub TurnsWhole : Option Coons → List (Piece (List A) (List A)) → Type 0
   TurnsWhole b qs =
       (map (tensor_patch T) (mesh sides b qs) ≡ mesh sides (Option.map (tensor_patch T) b) (tensor_pieces b qs)) × All (Whole 12) (tensor_pieces b qs)
 
-  pub turned-mesh : (b : Option Coons) (qs : List (Piece (List A) (List A))) → Before (Sized 12 4) b → All (Whole 8) qs → TurnsWhole b qs
+  pub turned_mesh : (b : Option Coons) (qs : List (Piece (List A) (List A))) → Before (Sized 12 4) b → All (Whole 8) qs → TurnsWhole b qs
   unfolding mesh tensor_pieces
-  turned-mesh b [] z w = (refl, tt)
-  turned-mesh b (q ∷ qs) z w = go (patch_of sides b q.flag q.body) refl (λ p y. turned-mesh (some p) qs y w.1)
+  turned_mesh b [] z w = (refl, tt)
+  turned_mesh b (q ∷ qs) z w = go (patch_of sides b q.flag q.body) refl (λ p y. turned_mesh (some p) qs y w.1)
     where
       go : (o : Option Coons) → patch_of sides b q.flag q.body ≡ o → ((p : Coons) → Sized 12 4 p → TurnsWhole (some p) qs) → TurnsWhole b (q ∷ qs)
-      go none e ih = rw (mesh-ends sides b q qs e, pieces_end b q qs e) (refl, tt)
+      go none e ih = rw (mesh_ends sides b q qs e, pieces_end b q qs e) (refl, tt)
       go (some p) e ih =
           let y = patch_of_has sides (Fits 12) (λ (f : ℕ). Sized (points_after 8 f) (colours_after f)) (Sized 12 4) sides_fit.0
           (λ o w. w) (λ b s f o z t w. onto_sized 8 b s o z t w) b q.flag q.body p z w.0 e in
           rw (
-            mesh-more sides b q qs p e,
+            mesh_more sides b q qs p e,
             pieces_go_on b q qs p e,
-            mesh-more sides (Option.map (tensor_patch T) b) (tensor_piece q.flag p) (tensor_pieces (some p) qs) (tensor_patch T p)
+            mesh_more sides (Option.map (tensor_patch T) b) (tensor_piece q.flag p) (tensor_pieces (some p) qs) (tensor_patch T p)
                 (patch_of-turned b q.flag q.body p z e),
           )
-          (ap (λ (l : List (Patch (List B) (List B))). tensor_patch T p ∷ l) (ih p y).0, (piece-whole q.flag p y, (ih p y).1))
+          (ap (λ (l : List (Patch (List B) (List B))). tensor_patch T p ∷ l) (ih p y).0, (piece_whole q.flag p y, (ih p y).1))
 
 -- so it is for a list of raw numbers
 pub turned_list : (n : ℕ) (xs : List ℕ) → let qs : List (Piece (List ℤ) (List ℤ)) = tensor_pieces raw none (pieces 0 (λ x. x) 8 n xs) in
@@ -151,4 +151,4 @@ pub turned_list : (n : ℕ) (xs : List ℕ) → let qs : List (Piece (List ℤ) 
 unfolding patches pieces
 turned_list n xs =
     let qs : List (Piece (List ℕ) (List ℕ)) = pieces 0 (λ x. x) 8 n xs in
-    turned-mesh raw none qs tt (all_map (PieceWhole 0 (λ x. x) 8 n) (Whole 8) qs (λ q w. w.0) (to_whole 0 (λ x. x) 8 n (length xs) xs))
+    turned_mesh raw none qs tt (all_map (PieceWhole 0 (λ x. x) 8 n) (Whole 8) qs (λ q w. w.0) (to_whole 0 (λ x. x) 8 n (length xs) xs))

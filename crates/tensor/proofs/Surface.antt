@@ -34,9 +34,9 @@ line_is_curve : (a b s t : ℕ) → 3 * line a b s t ≡ bezier (3 * a) (2 * a +
 unfolding line bezier B
 line_is_curve a b s t = omega arith
 
-times-nine : (a b c d s t : ℕ) → bezier (9 * a) (9 * b) (9 * c) (9 * d) s t ≡ 9 * bezier a b c d s t
+times_nine : (a b c d s t : ℕ) → bezier (9 * a) (9 * b) (9 * c) (9 * d) s t ≡ 9 * bezier a b c d s t
 unfolding bezier
-times-nine a b c d s t = omega arith
+times_nine a b c d s t = omega arith
 
 -- a line between two curves is a curve of lines
 line_of_curves : (a b c d e f g h s t x y : ℕ)
@@ -101,8 +101,8 @@ curve_gathered a g1 l1 g2 l2 d s t =
     )
     (add-more (a * B 0 s t + g1 * i + g2 * j) (l1 * i + l2 * j) (d * B 3 s t))
 
-nine-times : (a b : ℕ) → pos 9 *ℤ (pos a -ℤ pos b) ≡ pos (9 * a) -ℤ pos (9 * b)
-nine-times a b = *ℤ_comm (pos 9) (pos a -ℤ pos b) ∙ times_difference a b 9 ∙ same_difference (a * 9) (b * 9) (9 * a) (9 * b) (omega arith)
+nine_times : (a b : ℕ) → pos 9 *ℤ (pos a -ℤ pos b) ≡ pos (9 * a) -ℤ pos (9 * b)
+nine_times a b = *ℤ_comm (pos 9) (pos a -ℤ pos b) ∙ times_difference a b 9 ∙ same_difference (a * 9) (b * 9) (9 * a) (9 * b) (omega arith)
 
 inner_gathered : (a b c d e f g h : ℕ)
     → ninefold (pos a) (pos b) (pos c) (pos d) (pos e) (pos f) (pos g) (pos h) ≡ pos (6 * (b + c) + 3 * (f + g)) -ℤ pos (4 * a + 2 * (d + e) + h)
@@ -111,13 +111,13 @@ inner_gathered a b c d e f g h = gathered (4 * a) (6 * (b + c)) (2 * (d + e)) (3
 
 -- ---- one axis
 
-curve-whole : (a b c d s t : ℕ) → curve (pos a) (pos b) (pos c) (pos d) s t ≡ pos (bezier a b c d s t)
+curve_whole : (a b c d s t : ℕ) → curve (pos a) (pos b) (pos c) (pos d) s t ≡ pos (bezier a b c d s t)
 unfolding curve bezier
-curve-whole a b c d s t = refl
+curve_whole a b c d s t = refl
 
-between-whole : (a b s t : ℕ) → between (pos a) (pos b) s t ≡ pos (line a b s t)
+between_whole : (a b s t : ℕ) → between (pos a) (pos b) s t ≡ pos (line a b s t)
 unfolding between line
-between-whole a b s t = refl
+between_whole a b s t = refl
 
 begins_at : (a b c d : ℕ) → bezier a b c d 1 0 ≡ a
 unfolding bezier B
@@ -140,7 +140,7 @@ module _ (q : ℕ → ℕ) (s t x y : ℕ) where
   coons_gathered : coons_surface (λ ij. pos (q ij)) s t x y
       ≡ pos (bezier (across 0) (across 1) (across 2) (across 3) s t + line d1 d2 s t) -ℤ pos (line (across 0) (across 3) s t)
   unfolding coons_surface d1 d2 across
-  coons_gathered = simp (curve-whole, begins_at, ends_at, between-whole, line_of_curves, line_of_lines)
+  coons_gathered = simp (curve_whole, begins_at, ends_at, between_whole, line_of_curves, line_of_lines)
 
   same_surface : curve
       (curve (pos (9 * q 00)) (pos (9 * q 01)) (pos (9 * q 02)) (pos (9 * q 03)) x y)
@@ -151,7 +151,7 @@ module _ (q : ℕ → ℕ) (s t x y : ℕ) where
       ≡ pos 9 *ℤ coons_surface (λ ij. pos (q ij)) s t x y
   unfolding d1 d2 across added taken
   same_surface =
-      simp (inner_gathered, curve_gathered, curve-whole, times-nine, coons_gathered, nine-times)
+      simp (inner_gathered, curve_gathered, curve_whole, times_nine, coons_gathered, nine_times)
       (same_difference _ _ _ _
       (rows d1 d2 (across 0) (across 1) (across 2) (across 3) _ _ _ _ s t
       (inner_row (q 00) (q 01) (q 02) (q 03) (q 10) (q 13) (q 30) (q 31) (q 32) (q 33) x y)

@@ -13,13 +13,13 @@ use Rattle.rules.specs.Patches.{Patch, patch, sides, Piece, mesh, patch_row}
 use Rattle.rules.specs.Meshes.{Source, groups, pieces, patches, patch_mesh}
 use Rattle.rules.proofs.Lists.{all_map, length_flat_all}
 use Rattle.rules.proofs.Tables.{sides_fit}
-use Rattle.rules.proofs.Patches.{each, each_piece, mesh-decoded}
+use Rattle.rules.proofs.Patches.{each, each_piece, mesh_decoded}
 use Rattle.rules.proofs.Meshes.{Numbered, to_whole, patches_numbered}
 use Rattle.rules.proofs.Rows.{length-patch_row, numbered_rows, length-patch_mesh}
-use Rattle.meshes.proofs.Parts.{joined-first}
+use Rattle.meshes.proofs.Parts.{joined_first}
 use Rattle.tensor.specs.Turning.{rounded, tensor_patch}
 use Rattle.tensor.specs.Outcomes.{coons_size, read_patches}
-use Rattle.tensor.proofs.Sharing.{Whole, tensor_pieces, turned-mesh}
+use Rattle.tensor.proofs.Sharing.{Whole, tensor_pieces, turned_mesh}
 
 all_mapped : {A B : Type 0} (P : B → Type 0) (f : A → B) (l : List A) → All (λ (x : A). P (f x)) l → All P (map f l)
 all_mapped P f [] h = tt
@@ -40,7 +40,7 @@ module _ {P B Q : Type 0} (f : P → List B) (g : P → Q) (cut : List B → ℕ
       let vs : List B = front ++ (f x ++ (flat f l ++ back)) in
       let here : length front + 0 * m ≡ length front = omega (arith, zero-mul m) in
       rw (append_assoc (f x) (flat f l) back)
-      (joined-first (length l) (λ (i : ℕ). cut vs (length front + i * m) ∷ [])
+      (joined_first (length l) (λ (i : ℕ). cut vs (length front + i * m) ∷ [])
       ∙ ap₂ (λ (y : Q) (ys : List Q). y ∷ ys) (ap (cut vs) here ∙ a.0.1 front (flat f l ++ back))
       (joined_same (length l) _ _ (λ i h. ap (λ (y : Q). y ∷ [])
       (ap₂ cut (sym (append_assoc front (f x) (flat f l ++ back))) (omega (arith, length-append front (f x), a.0.0, suc-mul i m))))
@@ -123,10 +123,10 @@ module _ {A : Type 0} (S : Source A Float) (n : ℕ) (point_sized : (x : List A)
         let rs : List (Piece (List A) (List A)) = pieces S.missing S.flag 8 n xs in
         let qs : List (Piece (List Float) (List Float)) = map (each_piece S.point S.colour) rs in
         let same : read_patches n (patch_mesh sides 8 S n xs).numbers ≡ mesh sides none qs =
-        taken_apart ∙ sym (mesh-decoded S.point S.colour sides none rs) in
+        taken_apart ∙ sym (mesh_decoded S.point S.colour sides none rs) in
         let whole : All (Whole 8) qs =
         all_mapped (Whole 8) (each_piece S.point S.colour) rs
         (all_map _ _ rs (λ q h. (rw length-map h.0.0, rw length-map h.0.1))
         (to_whole S.missing S.flag 8 n (length xs) xs)) in
-        let t = turned-mesh rounded none qs tt whole in
+        let t = turned_mesh rounded none qs tt whole in
         (ap (map (tensor_patch rounded)) same ∙ t.0, t.1)

@@ -11,7 +11,7 @@ use Rattle.lists.specs.Lists.{joined, part, flat}
 use Rattle.lists.proofs.Pieces.{joined_same, length_part}
 use Rattle.rules.specs.Patches.{patch, Places, at, sides}
 use Rattle.rules.specs.Meshes.{groups, size_after}
-use Rattle.meshes.proofs.Parts.{part-first, part_second}
+use Rattle.meshes.proofs.Parts.{part_first, part_second}
 use Rattle.tensor.specs.declared.raw.Coons.{Coons}
 use Rattle.tensor.specs.Inner.Standing.{points_in, colours_in, patch_in, Within, Takes}
 use Rattle.tensor.proofs.Rows.{groups_of_part}
@@ -27,11 +27,11 @@ groups_then xs p j (suc k) m =
     (append_assoc (groups 0 xs p j m) (groups 0 xs (p + j * m) k m) (part 0 xs (p + j * m + k * m) m ∷ []))
 
 module _ (a b : List ℕ) (m j : ℕ) (long : length a ≡ j * m) where
-  groups-first : groups 0 (a ++ b) 0 j m ≡ groups 0 a 0 j m
+  groups_first : groups 0 (a ++ b) 0 j m ≡ groups 0 a 0 j m
   unfolding groups
-  groups-first =
+  groups_first =
       joined_same j _ _
-      (λ i l. ap (λ (x : List ℕ). x ∷ []) (part-first 0 a b (0 + i * m) m (omega (arith, mul-le-mul_right m l, suc-mul i m, zero-add (i * m)))))
+      (λ i l. ap (λ (x : List ℕ). x ∷ []) (part_first 0 a b (0 + i * m) m (omega (arith, mul-le-mul_right m l, suc-mul i m, zero-add (i * m)))))
 
   groups_second : (k : ℕ) → groups 0 (a ++ b) (j * m) k m ≡ groups 0 b 0 k m
   unfolding groups
@@ -48,7 +48,7 @@ groups_of_copies a p j b q k m =
     let long : length x ≡ j * m = length_part 0 a p (j * m) in
     groups_then (x ++ y) 0 j k m
     ∙ ap₂ (λ (l r : List (List ℕ)). l ++ r)
-    (groups-first x y m j long ∙ groups_of_part 0 a p j m)
+    (groups_first x y m j long ∙ groups_of_part 0 a p j m)
     (ap (λ (z : ℕ). groups 0 (x ++ y) z k m) (zero-add (j * m)) ∙ groups_second x y m j long k ∙ groups_of_part 0 b q k m)
 
 -- points in the middle of a border, and its last three
@@ -69,9 +69,9 @@ last_points xs p =
 
 -- ---- what follows a flag
 
-groups-drop : (j : ℕ) (xs : List ℕ) (from k m : ℕ) → groups 0 (drop j xs) from k m ≡ groups 0 xs (j + from) k m
+groups_drop : (j : ℕ) (xs : List ℕ) (from k m : ℕ) → groups 0 (drop j xs) from k m ≡ groups 0 xs (j + from) k m
 unfolding groups part
-groups-drop j xs from k m =
+groups_drop j xs from k m =
     joined_same k _ _
     (λ i l. ap (λ (x : List ℕ). x ∷ [])
     (joined_same m _ _
@@ -81,7 +81,7 @@ groups-drop j xs from k m =
     regrouped a h = omega arith
 
 own_points : (j : ℕ) (xs : List ℕ) (k : ℕ) → groups 0 (drop j xs) 0 k 2 ≡ groups 0 xs j k 2
-own_points j xs k = groups-drop j xs 0 k 2 ∙ ap (λ (p : ℕ). groups 0 xs p k 2) (add-zero j)
+own_points j xs k = groups_drop j xs 0 k 2 ∙ ap (λ (p : ℕ). groups 0 xs p k 2) (add-zero j)
 
 two_colours : (n : ℕ) (xs : List ℕ) (p : ℕ) → groups 0 xs p 2 n ≡ part 0 xs p n ∷ part 0 xs (p + n) n ∷ []
 unfolding groups joined
@@ -99,12 +99,12 @@ four_colours n xs p =
 two_parts : (a : List ℕ) (p j : ℕ) (b : List ℕ) (q k : ℕ) → length (part 0 a p j ++ part 0 b q k) ≡ j + k
 two_parts a p j b q k = rw (length-append, length_part 0 a p j, length_part 0 b q k) refl
 
-pub size-first : (n f : ℕ) → f ≡ 0 → 1 + size_after 8 n f ≡ 25 + 4 * n
-size-first n f e = rw e (omega arith)
+pub size_first : (n f : ℕ) → f ≡ 0 → 1 + size_after 8 n f ≡ 25 + 4 * n
+size_first n f e = rw e (omega arith)
 
-pub size-joined : (n f : ℕ) → 1 ≤ f → 1 + size_after 8 n f ≡ 17 + 2 * n
-size-joined n zero h = absurd (omega arith)
-size-joined n (suc f) h = omega arith
+pub size_joined : (n f : ℕ) → 1 ≤ f → 1 + size_after 8 n f ≡ 17 + 2 * n
+size_joined n zero h = absurd (omega arith)
+size_joined n (suc f) h = omega arith
 
 module _ (n : ℕ) (xs : List ℕ) (before : Coons) (i : ℕ) where
   abbrev flag : ℕ
@@ -114,11 +114,11 @@ module _ (n : ℕ) (xs : List ℕ) (before : Coons) (i : ℕ) where
       → Takes n xs before i (record { side = side; own = i + 1 + 8; c00 = i + 1 + 24; c03 = i + 1 + 24 + n; c33 = i + 1 + 24 + 2 * n })
   unfolding patch_in
   takes_first e h side s =
-      let k = size-first n flag e in (
+      let k = size_first n flag e in (
         rw (e, s) (ap₂ (λ (ps cs : List (List ℕ)). some (patch ps cs))
             (own_points (i + 1) xs 12 ∙ groups_then xs (i + 1) 4 8 2
             ∙ ap (λ (l : List (List ℕ)). l ++ groups 0 xs (i + 1 + 8) 8 2) (sym (groups_of_part 0 xs (i + 1) 4 2)))
-            (groups-drop (i + 1) xs 24 4 n ∙ four_colours n xs (i + 1 + 24))),
+            (groups_drop (i + 1) xs 24 4 n ∙ four_colours n xs (i + 1 + 24))),
         (omega (arith, k), omega (arith, k), omega (arith, k), omega (arith, k), rw s (length_part 0 xs (i + 1) 8)),
         omega (arith, k),
       )
@@ -132,10 +132,10 @@ module _ (n : ℕ) (xs : List ℕ) (before : Coons) (i : ℕ) where
       → Takes n xs before i (record { side = side; own = i + 1; c00 = c00; c03 = c03; c33 = i + 1 + 16 })
   unfolding patch_in
   takes_joined f s e t h w side c00 c03 long ps cs a b =
-      let k = size-joined n flag (rw e (omega arith)) in (
+      let k = size_joined n flag (rw e (omega arith)) in (
         rw (e, t, ps, cs) (ap₂ (λ (ps cs : List (List ℕ)). some (patch (groups 0 side 0 4 2 ++ ps) (part 0 xs c00 n ∷ part 0 xs c03 n ∷ cs)))
             (own_points (i + 1) xs 8)
-            (groups-drop (i + 1) xs 16 2 n ∙ two_colours n xs (i + 1 + 16))),
+            (groups_drop (i + 1) xs 16 2 n ∙ two_colours n xs (i + 1 + 16))),
         (omega (arith, k), a, b, omega (arith, k), long),
         omega (arith, k),
       )

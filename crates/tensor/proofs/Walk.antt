@@ -15,7 +15,7 @@ use Rattle.records.specs.declared.shape.Shape.TheVariants.{Follows, Ends}
 use Rattle.records.specs.Format.{shape_of, widths_of, whole_number}
 use Rattle.rules.specs.Patches.{sides, patch_of, mesh}
 use Rattle.rules.specs.Meshes.{piece, pieces, patches, size_after}
-use Rattle.rules.proofs.Patches.{mesh-more}
+use Rattle.rules.proofs.Patches.{mesh_more}
 use Rattle.rules.proofs.Meshes.{pieces_none, pieces_more}
 use Rattle.rules.proofs.RawReading.{there, more_gives}
 use Rattle.tensor.specs.declared.raw.Counted.{Counted}
@@ -138,7 +138,7 @@ module _ {n : ℕ} {xs : List ℕ} {b : Option Raw} {i : ℕ} {done : List Raw} 
             w.split
             ∙ ap (λ (ys : List ℕ). done ++ mesh sides b (pieces 0 whole_number 8 n ys)) (drop-cons xs i 0 h)
             ∙ ap (λ (qs : List _). done ++ mesh sides b qs) (pieces_more 0 8 n whole_number flag after (rw (← f.sized) all))
-            ∙ ap (λ (ps : List Raw). done ++ ps) (mesh-more sides b (piece 0 8 n flag after) (pieces 0 whole_number 8 n (drop (size_after 8 n flag) after)) p made)
+            ∙ ap (λ (ps : List Raw). done ++ ps) (mesh_more sides b (piece 0 8 n flag after) (pieces 0 whole_number 8 n (drop (size_after 8 n flag) after)) p made)
             ∙ ap (λ (ys : List ℕ). done ++ (p ∷ mesh sides (some p) (pieces 0 whole_number 8 n ys))) (rw (← f.sized) next)
             ∙ sym (append_assoc done (p ∷ []) (mesh sides (some p) (pieces 0 whole_number 8 n (drop (i + (1 + coords + colours * n)) xs))));
         rest = l.1.1 ∙ rw (le-leb _ _ all, next);
@@ -183,6 +183,6 @@ pub told_broken : (whole : Bool) (count : ℕ) → count_of whole count ≡ Brok
 told_broken true count e = let z : suc count ≡ 0 = ap patches_in e in absurd (omega arith)
 told_broken false count e = refl
 
-pub told-patches : (whole : Bool) (count told : ℕ) → count_of whole count ≡ Patches told → (whole ≡ true) × (told ≡ count)
-told-patches true count told e = let z : suc count ≡ suc told = ap patches_in e in (refl, omega arith)
-told-patches false count told e = let z : 0 ≡ suc told = ap patches_in e in absurd (omega arith)
+pub told_patches : (whole : Bool) (count told : ℕ) → count_of whole count ≡ Patches told → (whole ≡ true) × (told ≡ count)
+told_patches true count told e = let z : suc count ≡ suc told = ap patches_in e in (refl, omega arith)
+told_patches false count told e = let z : 0 ≡ suc told = ap patches_in e in absurd (omega arith)

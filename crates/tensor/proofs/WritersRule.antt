@@ -25,13 +25,13 @@ Held x = x < 2 ^ 32
 abbrev Widest : ℕ → Type 0
 Widest w = w ≡ 32
 
-there-prefixed : (b : List ℕ) (o : Option (List ℕ)) → there (prefixed b o) ≡ there o
-there-prefixed b none = refl
-there-prefixed b (some r) = refl
+there_prefixed : (b : List ℕ) (o : Option (List ℕ)) → there (prefixed b o) ≡ there o
+there_prefixed b none = refl
+there_prefixed b (some r) = refl
 
-there-field : (w x : ℕ) (o : Option (List ℕ)) → Widest w → Held x → there (field w x o) ≡ there o
+there_field : (w x : ℕ) (o : Option (List ℕ)) → Widest w → Held x → there (field w x o) ≡ there o
 unfolding field
-there-field w x o e h = rw (e, lt-ltb x (2 ^ 32) h) (there-prefixed (bits_of 32 x) o)
+there_field w x o e h = rw (e, lt-ltb x (2 ^ 32) h) (there_prefixed (bits_of 32 x) o)
 
 module _ (n : ℕ) where
   abbrev F : Format
@@ -44,7 +44,7 @@ module _ (n : ℕ) where
   there_due started [] xs a b = rw (le-leb 0 (length xs) (omega arith))
   there_due started (w ∷ ws) [] a b = rw (lt-leb (suc (length ws)) 0 (omega arith))
   there_due started (w ∷ ws) (x ∷ xs) a b =
-      there-field w x (packed F started ws xs) a.0 b.0 ∙ there_due started ws xs a.1 b.1
+      there_field w x (packed F started ws xs) a.0 b.0 ∙ there_due started ws xs a.1 b.1
       ∙ rw (leb-suc-suc (length ws) (length xs))
 
   rule : (k : ℕ) (started : Bool) (xs : List ℕ) → length xs ≤ k → All Held xs → there (packed F started [] xs) ≡ whole_records k n started xs
@@ -64,7 +64,7 @@ module _ (n : ℕ) where
           let widest = all_append Widest (replicate coords 32) _ (all_replicate Widest coords 32 refl) (all_replicate Widest (colours * n) 32 refl) in
           let short : length (drop size xs) ≤ k = rw length-drop (omega arith) in
           rw (e, packed, whole_records)
-          (there-field 32 x (packed F true due xs) refl a.0
+          (there_field 32 x (packed F true due xs) refl a.0
           ∙ there_due true due xs widest a.1
           ∙ rw (long, ih (drop size xs) short (all_drop Held size xs a.1)))
       go Ends e ih = rw (e, packed, whole_records)

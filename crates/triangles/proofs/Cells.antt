@@ -13,13 +13,13 @@ use lib.Dec.{ltb}
 use lib.Ieee.{Float, nan}
 use Rattle.lists.specs.Lists.{joined, part, flat}
 use Rattle.lists.specs.Writing.{put, Written}
-use Rattle.lists.proofs.Pieces.{length-joined, joined_same, part_middle, flat-joined}
+use Rattle.lists.proofs.Pieces.{length-joined, joined_same, part_middle, flat_joined}
 use Rattle.lists.proofs.Parts.{written_here}
 use Rattle.lists.proofs.Writing.{written_length, written_start, written_more, written_then, part_before}
 use Rattle.rules.specs.Triangles.{corners}
 use Rattle.rules.specs.Lattice.{cell, lattice}
 use Rattle.rules.proofs.Lattice.{lattice_count, lattice_none}
-use Rattle.meshes.proofs.Parts.{part-first, part_second, part_of_piece}
+use Rattle.meshes.proofs.Parts.{part_first, part_second, part_of_piece}
 use Rattle.triangles.specs.Inner.Vertices.{RowStands}
 use Rattle.triangles.specs.Inner.Cells.{cell_numbers, cells_numbers, Above}
 
@@ -51,7 +51,7 @@ written_inside {l} {o} {at} {p} {xs} from k w h =
     rw w.held
     (ap (λ (m : ℕ). part nan (take at l ++ (xs ++ rest)) (m + from) k) (sym e)
     ∙ part_second nan (take at l) (xs ++ rest) from k
-    ∙ part-first nan xs rest from k h)
+    ∙ part_first nan xs rest from k h)
 
 module _ (vertex : ℕ → List Float) (size : ℕ) (sized : (i : ℕ) → length (vertex i) ≡ size) where
   -- ---- a cell
@@ -131,8 +131,8 @@ module _ (vertex : ℕ → List Float) (size : ℕ) (sized : (i : ℕ) → lengt
         let n : c + 1 ≤ row - 1 = omega arith in
         omega (arith, cells_place, mul-le-mul_right (6 * size) n, mul_comm (6 * size) (row - 1))
 
-    pub cells-more : {o' : List Float} {q : ℕ} → Written o o' p (cell_numbers vertex row (first + c)) q → Cells l o' at q row first (c + 1)
-    cells-more w = record { written = written_more c (cells row first) k.written w; same = written_length w ∙ k.same }
+    pub cells_more : {o' : List Float} {q : ℕ} → Written o o' p (cell_numbers vertex row (first + c)) q → Cells l o' at q row first (c + 1)
+    cells_more w = record { written = written_more c (cells row first) k.written w; same = written_length w ∙ k.same }
 
     -- all
     pub cells_done : row ≤ c + 1 → c + 1 ≤ row → (p ≡ at + 6 * size * (row - 1)) × Written l o at (cells_numbers vertex row first) p
@@ -222,9 +222,9 @@ module _ (vertex : ℕ → List Float) (size : ℕ) (sized : (i : ℕ) → lengt
         }
 
   -- in a band, the fifth row of cell c
-  band-row : (row r c : ℕ) → c + 1 < row → part nan (band row r) (c * (6 * size) + 4 * size) size ≡ vertex (r * row + c + row + 1)
+  band_row : (row r c : ℕ) → c + 1 < row → part nan (band row r) (c * (6 * size) + 4 * size) size ≡ vertex (r * row + c + row + 1)
   unfolding cells_numbers
-  band-row row r c h =
+  band_row row r c h =
       ap (λ (xs : List Float). part nan xs (c * (6 * size) + 4 * size) size) (sym (append-nil _))
       ∙ part_of_piece nan (row - 1) (6 * size) (cells row (r * row)) (λ i. length-cell row (r * row + i)) [] c (4 * size) size (omega arith) (omega arith)
       ∙ fifth_row row (r * row + c)
@@ -248,15 +248,15 @@ module _ (vertex : ℕ → List Float) (size : ℕ) (sized : (i : ℕ) → lengt
             (written_inside (r * b + (c * (6 * size) + 4 * size)) size k.written (omega (arith, suc-mul r b))
             ∙ ap (λ (xs : List Float). part nan xs (r * b + (c * (6 * size) + 4 * size)) size) (sym (append-nil _))
             ∙ part_of_piece nan (suc r) b (band row) (length-band row) [] r (c * (6 * size) + 4 * size) size (omega arith) (omega arith)
-            ∙ band-row row r c g
+            ∙ band_row row r c g
             ∙ ap vertex v);
       }
 
   lattice_bands : (total row : ℕ) → flat (corners vertex) (lattice total row) ≡ joined (total / row - 1) (band row)
   unfolding lattice cells_numbers cell_numbers
   lattice_bands total row =
-      flat-joined (corners vertex) (total / row - 1) _
-      ∙ joined_same (total / row - 1) _ _ (λ r h. flat-joined (corners vertex) (row - 1) (λ (c : ℕ). cell row (r * row + c)))
+      flat_joined (corners vertex) (total / row - 1) _
+      ∙ joined_same (total / row - 1) _ _ (λ r h. flat_joined (corners vertex) (row - 1) (λ (c : ℕ). cell row (r * row + c)))
 
   pub lattice_written : (total row rows : ℕ) {l o : List Float} {p : ℕ} → rows ≡ total / row → Written l o 0 (joined (rows - 1) (band row)) p
       → Written l o 0 (flat (corners vertex) (lattice total row)) p
@@ -291,8 +291,8 @@ module _ (total row rows : ℕ) (e : rows ≡ cond (ltb row 2) 0 (total / row)) 
     pub rows_inside : rows * row ≤ total
     rows_inside = rw all_rows (div-mul-le_self total row)
 
-    pub few-cells : 2 * (rows - 1) * (row - 1) ≤ 2 * total
-    few-cells =
+    pub few_cells : 2 * (rows - 1) * (row - 1) ≤ 2 * total
+    few_cells =
         let a : rows - 1 ≤ rows = omega arith in
         let b : row - 1 ≤ row = omega arith in
         omega (arith, mul-le-mul a b, rows_inside)

@@ -20,7 +20,7 @@ use Rattle.records.specs.declared.layout.FlagWidth.TheVariants.{Absent, Bits}
 use Rattle.records.specs.declared.shape.Kind.TheVariants.{Four, Five}
 use Rattle.records.specs.Format.{whole_number}
 use Rattle.records.specs.Layout.{layout_readable}
-use Rattle.records.proofs.Layouts.{layout-widths}
+use Rattle.records.proofs.Layouts.{layout_widths}
 use Rattle.colour.specs.Inner.Places.{Numbers, bit_numbers, list_numbers, vertex_at}
 use Rattle.rows.specs.declared.Layout.{Layout}
 use Rattle.rows.specs.Inner.Layouts.{numbers_of, masked, flag_in, range_list, held_ranges, filled_ranges}
@@ -51,18 +51,18 @@ bit_layout flag coord comp n = record { listed = false; flag = flag; coord = coo
 abbrev list_layout : ℕ → ℕ → Layout
 list_layout flag n = record { listed = true; flag = flag; coord = 1; comp = 1; n = n }
 
-pub there-bits : (s : List ℕ) (vs : List Float) (coord comp flag mask n : ℕ) → 1 ≤ coord → coord ≤ 32 → 1 ≤ comp → comp ≤ 32 → n ≤ most_components
+pub there_bits : (s : List ℕ) (vs : List Float) (coord comp flag mask n : ℕ) → 1 ≤ coord → coord ≤ 32 → 1 ≤ comp → comp ≤ 32 → n ≤ most_components
     → length s ≤ most_bytes → VerticesThere (vertices_in (bit_layout flag coord comp n) mask (8 * length s)) s vs
-there-bits s vs coord comp flag mask n a b c d few short =
+there_bits s vs coord comp flag mask n a b c d few short =
     record {
       few = few;
       sized = refl;
       in_bits = λ e.
           record {
             coord_some = a;
-            coord-few = b;
+            coord_few = b;
             comp_some = c;
-            comp-few = d;
+            comp_few = d;
             whole = div-mul-le_self (8 * length s) (flag + (2 * coord + n * comp));
             short = short;
           };
@@ -121,7 +121,7 @@ module _ (s : List ℕ) (vs : List Float) (coord comp : ℕ) (dec : List Float) 
   unfolding triangles_in flag_of_vertex row_of_vertex numbers_of flag_in
   type4_ended {entry} flag mask e d =
       let m : Stream = record { kind = Four; meaning = masked mask; flag = Bits flag; coord = coord; comp = comp; entries = dec; n = n } in
-      let w = layout-widths (Bits flag) coord comp (length dec) e in
+      let w = layout_widths (Bits flag) coord comp (length dec) e in
       finishes (accepted m (type4_mesh (triangles triangle_before)) s entry e few short)
       (sym (type4_alike (masked mask) held (ranges dec coord comp) n alike (triangles triangle_before) (raw_of m s))
       ∙ mesh_of_type4 s held coord comp n (masked mask) flag w.of_first.some_bits triangle_before) d
@@ -133,7 +133,7 @@ module _ (s : List ℕ) (vs : List Float) (coord comp : ℕ) (dec : List Float) 
   unfolding row_of_vertex numbers_of
   type5_ended {entry} mask row e d =
       let m : Stream = record { kind = Five; meaning = whole_number; flag = Absent; coord = coord; comp = comp; entries = dec; n = n } in
-      let w = layout-widths Absent coord comp (length dec) e in
+      let w = layout_widths Absent coord comp (length dec) e in
       finishes (accepted m (type5_mesh row) s entry e few short)
       (sym (type5_alike whole_number held (ranges dec coord comp) n alike row (raw_of m s))
       ∙ mesh_of_type5 s held coord comp n w.of_coord.some_bits row) d

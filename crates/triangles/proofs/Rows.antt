@@ -15,19 +15,19 @@ use Rattle.colour.proofs.Lengths.{length-vertex_at}
 use Rattle.rows.specs.Inner.Layouts.{numbers_of, vertex_in, masked, flag_at}
 use Rattle.rows.specs.Inner.Placing.{NumbersThere, shared_rows, row_index, corner_fits}
 use Rattle.rows.proofs.Corners.{no_shared, two_shared, index_alone, index_joined}
-use Rattle.rows.proofs.Callers.{corner_placed, flag-there}
+use Rattle.rows.proofs.Callers.{corner_placed, flag_there}
 use Rattle.triangles.specs.declared.vertices.Vertices.{Vertices}
 use Rattle.triangles.specs.Inner.Vertices.{VerticesThere, Flagged, flag_of_vertex, row_of_vertex}
 
-ends-within : (i size total room : ℕ) → i < total → total * size ≤ room → i * size + size ≤ room
-ends-within i size total room h w = omega (arith, mul-le-mul_right size h, suc-mul i size)
+ends_within : (i size total room : ℕ) → i < total → total * size ≤ room → i * size + size ≤ room
+ends_within i size total room h w = omega (arith, mul-le-mul_right size h, suc-mul i size)
 
 module _ {v : Vertices} {s : List ℕ} {vs : List Float} (h : VerticesThere v s vs) (i : ℕ) (k : i < v.total) where
   ends_in_bits : v.layout.listed ≡ false → i * v.size + v.size ≤ 8 * length s
-  ends_in_bits e = ends-within i v.size v.total (8 * length s) k (h.in_bits e).whole
+  ends_in_bits e = ends_within i v.size v.total (8 * length s) k (h.in_bits e).whole
 
   ends_in_list : v.layout.listed ≡ true → i * v.size + v.size ≤ length vs
-  ends_in_list e = ends-within i v.size v.total (length vs) k (h.in_list e).whole
+  ends_in_list e = ends_within i v.size v.total (length vs) k (h.in_list e).whole
 
   -- a usize counts every place of a vertex
   pub place_small : i * v.size + v.layout.flag ≤ 134217728
@@ -40,18 +40,18 @@ module _ {v : Vertices} {s : List ℕ} {vs : List Float} (h : VerticesThere v s 
   pub flag_here : {f : ℕ} → Flagged v → f ≡ flag_at v.layout s vs (i * v.size) → masked v.mask f ≡ flag_of_vertex v s vs i
   unfolding flag_of_vertex
   flag_here g e =
-      ap (masked v.mask) e ∙ flag-there v.layout s vs v.mask (i * v.size)
+      ap (masked v.mask) e ∙ flag_there v.layout s vs v.mask (i * v.size)
       (λ l. let b = h.in_bits l in (g.some_bits, g.few_bits, b.short, omega (arith, ends_in_bits l, h.sized))) g.listed_whole
 
   -- its coordinates and components stand there
   stands : NumbersThere v.layout s vs (i * v.size + v.layout.flag) (2 * v.layout.coord + v.layout.n * v.layout.comp)
   stands =
       record {
-        n-few = h.few;
+        n_few = h.few;
         in_list = λ e. let l = h.in_list e in (l.coord_one, l.comp_one, omega (arith, ends_in_list e, h.sized));
         in_bits = λ e.
             let b = h.in_bits e in
-            (b.coord_some, b.coord-few, b.comp_some, b.comp-few, b.short, omega (arith, ends_in_bits e, h.sized));
+            (b.coord_some, b.coord_few, b.comp_some, b.comp_few, b.short, omega (arith, ends_in_bits e, h.sized));
       }
 
 pub length_in : (v : Vertices) (s : List ℕ) (vs : List Float) (R : Ranges) (i : ℕ) → length (row_of_vertex v s vs R i) ≡ v.layout.n + 10
@@ -78,12 +78,12 @@ module _ {v : Vertices} {s : List ℕ} {vs : List Float} (h : VerticesThere v s 
       let w : Written l o at (row_of_vertex v s vs R i) q = rw (no_shared l at (10 + n) at (omega arith)) at (corner_written at d (omega (arith, index)) (λ j. omega arith)) in
       (omega (arith, w.after, length_in v s vs R i), w)
 
-  pub row-joined : (first : ℕ)
+  pub row_joined : (first : ℕ)
       → Placed (corner_fits v.layout s vs (i * v.size + v.layout.flag) first at (length l)) l o at (shared_rows l first (10 + v.layout.n) at ++ vertex_in v.layout s vs R (i * v.size + v.layout.flag)) q
       → first + (v.layout.n + 10) ≤ at → at + 3 * (v.layout.n + 10) ≤ length l
       → (q ≡ at + 3 * (v.layout.n + 10))
       × Written l o at (part nan l first (v.layout.n + 10) ++ (part nan l (at - (v.layout.n + 10)) (v.layout.n + 10) ++ row_of_vertex v s vs R i)) q
-  row-joined first d before room =
+  row_joined first d before room =
       let n : ℕ = v.layout.n in
       let e : 10 + n ≡ n + 10 = omega arith in
       let index = index_joined first (10 + n) at (omega arith) in

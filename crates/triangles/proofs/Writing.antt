@@ -12,7 +12,7 @@ use lib.Dec.{eqb}
 use lib.Ieee.{Float, nan}
 use Rattle.lists.specs.Lists.{part, flat}
 use Rattle.lists.specs.Writing.{Written}
-use Rattle.lists.proofs.Pieces.{length-flat, flat-more}
+use Rattle.lists.proofs.Pieces.{length-flat, flat_more}
 use Rattle.lists.proofs.Writing.{written_length, written_none, written_then, written_part, part_before}
 use Rattle.rules.specs.Triangles.{Tri, tri, Rule, triangles, corners}
 use Rattle.rules.proofs.Walks.{Walk, kept_of, walk_start, walk_end, walk_first, walk_cut, walk_bc, walk_ac, walk_alone, walk_far, walk_room}
@@ -147,7 +147,7 @@ module _ (row : ℕ → List Float) (size : ℕ) (sized : (i : ℕ) → length (
             done = w.done ++ (t ∷ []);
             before = before;
             walk = v;
-            written = rw (flat-more (corners row) w.done t) y;
+            written = rw (flat_more (corners row) w.done t) y;
             kept = k (rw e at (last_three_lem (flat (corners row) w.done) t y));
             same = written_length x ∙ w.same;
             inside = h;

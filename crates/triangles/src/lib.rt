@@ -1,4 +1,4 @@
-// The readers and builders of Types 4 and 5, the free_form_lem and the lattice_form_lem triangle mesh. One code serves both sources of vertices, bits and a
+// The readers and builders of Types 4 and 5, the free-form and the lattice-form triangle mesh. One code serves both sources of vertices, bits and a
 // list of numbers, and both readings.
 #![tactic(auto)]
 

@@ -20,13 +20,13 @@ use Rattle.patches.specs.declared.finding.Found.TheVariants.{Record, End}
 -- past the tests of LAYOUT and COMPONENTS, with few enough places
 pub record Fair (m : Records) : Type 0 where
   pub flag_some : 1 ≤ m.layout.flag
-  pub flag-few : m.layout.flag ≤ 32
+  pub flag_few : m.layout.flag ≤ 32
   pub coord_some : 1 ≤ m.layout.coord
-  pub coord-few : m.layout.coord ≤ 32
+  pub coord_few : m.layout.coord ≤ 32
   pub comp_some : 1 ≤ m.layout.comp
-  pub comp-few : m.layout.comp ≤ 32
+  pub comp_few : m.layout.comp ≤ 32
   pub own_few : m.own ≤ 12
-  pub n-few : m.layout.n ≤ most_components
+  pub n_few : m.layout.n ≤ most_components
   pub limit_few : m.limit ≤ 134217728
 
 -- the places are those of the list, where a flag is the whole number, or those of the bits

@@ -52,7 +52,7 @@ copy_fits lead n from at room = leb n most_components && (leb (from + (lead + n)
 
 -- the same as facts: so many places from place p on
 pub record NumbersThere (L : Layout) (s : List ℕ) (vs : List Float) (p size : ℕ) : Type 0 where
-  pub n-few : L.n ≤ most_components
+  pub n_few : L.n ≤ most_components
   pub in_list : L.listed ≡ true → (L.coord ≡ 1) × (L.comp ≡ 1) × (p + size ≤ length vs)
   pub in_bits : L.listed ≡ false
       → (1 ≤ L.coord) × (L.coord ≤ 32) × (1 ≤ L.comp) × (L.comp ≤ 32) × (length s ≤ most_bytes) × (p + size ≤ 8 * length s)

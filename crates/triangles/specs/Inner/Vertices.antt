@@ -21,9 +21,9 @@ vertices_in L mask limit =
 -- the vertices stand whole in bits, or in a list
 pub record InBits (v : Vertices) (s : List ℕ) : Type 0 where
   pub coord_some : 1 ≤ v.layout.coord
-  pub coord-few : v.layout.coord ≤ 32
+  pub coord_few : v.layout.coord ≤ 32
   pub comp_some : 1 ≤ v.layout.comp
-  pub comp-few : v.layout.comp ≤ 32
+  pub comp_few : v.layout.comp ≤ 32
   pub whole : v.total * v.size ≤ 8 * length s
   pub short : length s ≤ most_bytes
 

@@ -1,0 +1,16 @@
+-- `packing::put::put_run` meets its contract: after k turns the first k numbers of the run are put. Assumes nothing.
+use Prim.Native.Nat.{◌-◌, ◌≤◌}
+use mathlib.Core.Path.{◌≡◌}
+use native.Mathlib.Nat.{mul-le-mul_right}
+use native.Mathlib.Omega.{arith}
+use Rattle.lists.specs.Lists.{flat}
+use Rattle.packing.specs.Inner.Passes.{run_at, run_bits, Put}
+use Rattle.packing.proofs.Runs.{run_fits-at, run_bits-more, length-run_bits}
+use Rattle.packing.proofs.Putting.{put_none, put_then, put_place, put_length}
+use Rattle.packing.proofs.put.put_run.Given as goal
+
+abbrev pub invariant-loop-k : goal.invariant-loop-k
+invariant-loop-k l = (l.k ≤ l.count) × Put l.initial.waiting l.waiting l.initial.out l.out (run_bits l.w (run_at l.numbers l.first l.k))
+
+abbrev pub decreases-loop-k : goal.decreases-loop-k
+decreases-loop-k l = l.count - l.k

@@ -1,0 +1,22 @@
+-- `packing::write::is_thin` meets its contract: a case for each mesh type. Assumes nothing.
+use Prim.Native.Nat.{◌*◌, ◌≤◌}
+use native.Mathlib.Omega.{arith}
+use Rattle.packing.specs.Writer.{thin}
+use Rattle.packing.proofs.Shapes.{times_few}
+use Rattle.packing.proofs.write.is_thin.Goals as goal
+
+pub returns-in-Four : goal.returns-in-Four
+unfolding thin
+returns-in-Four c = rw c.in-Four.is
+
+pub returns-in-Five : goal.returns-in-Five
+unfolding thin
+returns-in-Five c = rw c.in-Five.is
+
+pub returns-in-Six : goal.returns-in-Six
+unfolding thin
+returns-in-Six c = rw c.in-Six.is
+
+pub returns-in-Seven : goal.returns-in-Seven
+unfolding thin
+returns-in-Seven c = rw c.in-Seven.is

@@ -1,0 +1,15 @@
+-- `rows::writing::write_corner` meets its contract: ten numbers beside the components, and before them two rows or none. Assumes nothing.
+use Rattle.rows.proofs.Corners.{corner_alone, corner_joined}
+use Rattle.rows.proofs.writing.write_corner.Goals as goal
+
+pub returns-then-side-at-clause-written : goal.returns-then-side-at-clause-written
+returns-then-side-at-clause-written c =
+    let taken = c.if-side-at.true in
+    let a = c.args in
+    corner_joined a.vertex a.n a.side a.at (rw c.row_index.ensures at c.write_vertex.ensures.written) c.requires.1 taken (c.requires.2 taken) c.copy_row-p.ensures.written
+    c.copy_row.ensures.written
+
+pub returns-clause-written : goal.returns-clause-written
+returns-clause-written c =
+    let a = c.args in
+    corner_alone a.vertex a.n a.side a.at (rw c.row_index.ensures at c.write_vertex.ensures.written) c.requires.1 c.if-side-at.false
