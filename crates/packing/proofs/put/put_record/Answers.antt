@@ -11,38 +11,31 @@ use Rattle.packing.proofs.put.put_record.Goals as goal
 use Rattle.packing.proofs.put.put_record.Goals.{Start}
 
 fit : (s : Start) → Parts s.args.mesh s.args.coords s.args.comps s.args.numbers.now s.args.i
-fit s = fits_parts s.args.mesh s.args.coords s.args.comps s.args.numbers.now s.args.i s.requires.0.1
+fit s = fits_parts s.args.mesh s.args.coords s.args.comps s.args.numbers.now s.args.i s.requires.readable.1
 
 pub put_run-b-requires-clause-count_bound : goal.put_run-b-requires-clause-count_bound
 put_run-b-requires-clause-count_bound c =
-    let s = (goal.at.put_run-b-requires-clause-count_bound c).Start in
-    let a = s.args in
-    let p = c.put-a.ensures in (
-      (omega (arith, (fit s).there), s.requires.0.0.coord_few, (fit s).coords_fit),
-      (p.few, omega (arith, s.requires.1.1, put_place p, put_length p, length-bits a.mesh.first (get_or a.numbers.now a.i 0))),
-    )
+    let a = c.args in
+    let p = c.put-a.ensures in ((p.few, omega (arith, c.requires.count_bound.1, put_place p, put_length p, length-bits a.mesh.first (get_or a.numbers.now a.i 0))))
 
 pub put_run-requires-clause-count_bound : goal.put_run-requires-clause-count_bound
 put_run-requires-clause-count_bound c =
     let s = (goal.at.put_run-requires-clause-count_bound c).Start in
     let a = s.args in
     let p = c.put-a.ensures in
-    let q = c.put_run-b.ensures in (
-      (omega (arith, (fit s).there), s.requires.0.0.comp_few, (fit s).comps_fit),
-      (
-        q.few,
-        omega (
-          arith,
-          s.requires.1.1,
-          put_place p,
-          put_length p,
-          put_place q,
-          put_length q,
-          length-bits a.mesh.first (get_or a.numbers.now a.i 0),
-          length-run_bits a.mesh.coord a.numbers.now (a.i + 1) a.coords (omega (arith, (fit s).there)),
-        ),
+    let q = c.put_run-b.ensures in ((
+      q.few,
+      omega (
+        arith,
+        s.requires.count_bound.1,
+        put_place p,
+        put_length p,
+        put_place q,
+        put_length q,
+        length-bits a.mesh.first (get_or a.numbers.now a.i 0),
+        length-run_bits a.mesh.coord a.numbers.now (a.i + 1) a.coords (omega (arith, (fit s).there)),
       ),
-    )
+    ))
 
 pub returns : goal.returns
 returns c = put_then c.put-a.ensures (put_then c.put_run-b.ensures c.put_run.ensures)

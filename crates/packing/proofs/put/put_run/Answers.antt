@@ -19,10 +19,10 @@ put-waiting-requires c =
     let l = c.loop-k in
     let p = l.invariant.1 in
     let t = c.loop-k-test.true in (
-      run_fits-at a.w a.numbers.now a.first a.count l.k c.requires.0.0 t c.requires.0.2,
-      c.requires.0.1,
+      run_fits-at a.w a.numbers.now a.first a.count l.k c.requires.count_in_bounds.0 t c.requires.count_in_bounds.2,
+      c.requires.count_in_bounds.1,
       p.few,
-      omega (arith, c.requires.1.1, put_place p, put_length p, length-run_bits a.w a.numbers.now a.first l.k (omega arith), mul-le-mul_right a.w t),
+      omega (arith, c.requires.count_bound.1, put_place p, put_length p, length-run_bits a.w a.numbers.now a.first l.k (omega arith), mul-le-mul_right a.w t),
     )
 
 pub loop-k-preserved : goal.loop-k-preserved

@@ -33,7 +33,7 @@ module _ (k : In-Record) where
   fit =
       let a = k.args in
       let l = k.loop-i in
-      reached_room a.mesh a.numbers.now l.invariant.1.0 l.i coords comps l.invariant.1.1 k.loop-i-test.true found_in (length a.out-1.now) k.requires.1
+      reached_room a.mesh a.numbers.now l.invariant.1.0 l.i coords comps l.invariant.1.1 k.loop-i-test.true found_in (length a.out.now) k.requires.1
 
   there : k.loop-i.i + (1 + coords + comps) ≤ length k.args.numbers.now
   there = (fits_parts k.args.mesh coords comps k.args.numbers.now k.loop-i.i fit.0).there
@@ -52,7 +52,7 @@ returns-in_default c =
     let l = c.loop-i in
     let e = c.in_default.ensures in
     absurd
-    (subst (λ (o : Option (List ℕ)). Roomy o (length a.out-1.now))
+    (subst (λ (o : Option (List ℕ)). Roomy o (length a.out.now))
     (reached_flag a.mesh a.numbers.now l.invariant.1.0 l.i l.invariant.1.1 c.loop-i-test.true e) c.requires.1)
 
 pub put_record-waiting-requires-clause-readable : goal.put_record-waiting-requires-clause-readable
@@ -61,10 +61,7 @@ put_record-waiting-requires-clause-readable c =
     let a = k.args in
     let l = k.loop-i in
     let p = l.invariant.1.2 in
-    let f = fit k in (
-      (k.requires.0, f.0),
-      (p.few, omega (arith, f.1, put_place p, put_length p, length_record a.mesh (coords k) (comps k) a.numbers.now l.i (there k))),
-    )
+    let f = fit k in ((k.requires.0, f.0))
 
 pub put_record-waiting-requires-clause-count_bound : goal.put_record-waiting-requires-clause-count_bound
 put_record-waiting-requires-clause-count_bound c =
@@ -72,10 +69,7 @@ put_record-waiting-requires-clause-count_bound c =
     let a = k.args in
     let l = k.loop-i in
     let p = l.invariant.1.2 in
-    let f = fit k in (
-      (k.requires.0, f.0),
-      (p.few, omega (arith, f.1, put_place p, put_length p, length_record a.mesh (coords k) (comps k) a.numbers.now l.i (there k))),
-    )
+    let f = fit k in ((p.few, omega (arith, f.1, put_place p, put_length p, length_record a.mesh (coords k) (comps k) a.numbers.now l.i (there k))))
 
 pub loop-i-preserved : goal.loop-i-preserved
 loop-i-preserved c =
