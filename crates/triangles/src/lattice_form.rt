@@ -138,7 +138,7 @@ fn write_lattice(
     out: &mut [f64],
 ) -> usize
     requires { VerticesThere vertices «data».now values.now × (2 ≤ row) × (rows * row ≤ vertices.total) × ((rows - 1) * (6 * (vertices.layout.n + 10) * (row - 1)) ≤ length out.old) }
-    ensures* { λ r. ⌜ Written out.old out.new 0 (joined (rows - 1) (λ r. cells_numbers (row_of_vertex vertices «data».now values.now (held_ranges ranges.now)) row (r * row))) r ⌝ }
+    ensures { Written out.old out.new 0 (joined (rows - 1) (λ r. cells_numbers (row_of_vertex vertices «data».now values.now (held_ranges ranges.now)) row (r * row))) result }
 {
     let mut p: usize = 0;
     let mut first: usize = 0;
