@@ -5,16 +5,18 @@ ghost use Rattle.std.specs.Prelude.{◌-◌, ◌≤◌, length, take};
 ghost use Rattle.lists.specs.Writing.{Written};
 ghost use Rattle.dump.specs.Inner.Reading.{Within};
 
-use libc::{STDERR_FILENO, STDIN_FILENO, STDOUT_FILENO};
+use std::fs::File;
+use std::io::{Read, Write};
+use std::{env, io};
 
 // One byte more than a file may have, so that one byte too many is seen.
 const ROOM: usize = 65537;
 
 // What came: so many bytes; or a read failed.
-#[derive(Clone, Copy)]
+#[derive(Drop)]
 enum Input {
     Bytes(usize),
-    Failed,
+    Failed(io::Error),
 }
 
 // Writes the bytes that came to the file from an index on, as many as there is room for, and answers the index after them.
@@ -34,66 +36,43 @@ fn keep(came: &[u8], file: &mut [u8], at: usize) -> usize
     at + k
 }
 
-// Reads a descriptor to its end, and drops what there is no room for. A proved loop has to end, so it counts its turns down, from a number that no
-// run uses up.
-fn read_input(fd: i32, file: &mut [u8]) -> Input
+// Reads to the end, and drops what there is no room for.
+fn read_input<R: Read>(reader: &mut R, file: &mut [u8]) -> Input
     ensures { Within result file.new }
 {
     let mut at: usize = 0;
-    let mut turns = u64::MAX;
-    while turns > 0 {
-        let mut came = io::buffer();
-        let got = libc::read(fd, &mut came);
-        if got < 0 {
-            return Input::Failed;
+    for _ in 0..u64::MAX {
+        let mut came = [0u8; 4096];
+        match reader.read(&mut came) {
+            Ok(0) => return Input::Bytes(at),
+            Ok(n) => at = keep(&came[..n], file, at),
+            Err(error) => return Input::Failed(error),
         }
-        if got == 0 {
-            return Input::Bytes(at);
-        }
-        let n = io::count(got, &came);
-        at = keep(&came[..n], file, at);
-        turns -= 1;
     }
-    Input::Failed
+    Input::Failed(io::Error::from(io::ErrorKind::Other))
 }
 
-// Lists what comes from a descriptor. A message names it where it can't be read.
-fn list(fd: i32, name: &[u8]) {
+// Lists what a reader gives.
+fn list<R: Read>(rt: &impl Print, reader: &mut R) -> io::Result<()> {
     let mut file = [0u8; ROOM];
-    let Input::Bytes(n) = read_input(fd, &mut file) else {
-        os::fail(name);
-        return;
+    let n = match read_input(reader, &mut file) {
+        Input::Bytes(n) => n,
+        Input::Failed(error) => return Err(error),
     };
     let mut listing = [0u8; msf::LISTING];
     let length = msf::list_file(&file[0..n], &mut listing);
-    if !io::write_all(STDOUT_FILENO, &listing[0..length]) {
-        os::fail(b"standard output");
-    }
+    io::writer(rt).write_all(&listing[0..length])
 }
 
-// Lists the file that the argument names.
-fn list_argument() {
-    let mut buffer = io::buffer();
-    let length = os::arg(1, &mut buffer);
-    let name = &buffer[..length];
-    let fd = os::open_read(name);
-    if fd < 0 {
-        os::fail(name);
-        return;
+fn main(rt: HostRuntime) -> io::Result<()> {
+    let mut words = env::args(&rt)?;
+    let _program = words.next();
+    let Some(name) = words.next() else {
+        return list(&rt, &mut rt.reader());
+    };
+    if words.next().is_some() {
+        return eprintln!(rt; "usage: mesh-dump [FILE]");
     }
-    list(fd, name);
-    libc::close(fd);
-}
-
-fn main() {
-    let words = os::arg_count();
-    if words > 2 {
-        io::write_all(STDERR_FILENO, b"usage: mesh-dump [FILE]\n");
-        return;
-    }
-    if words == 2 {
-        list_argument();
-        return;
-    }
-    list(STDIN_FILENO, b"standard input");
+    let mut file = File::open(&rt, name.as_str())?;
+    list(&rt, &mut file)
 }

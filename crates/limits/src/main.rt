@@ -6,15 +6,16 @@
 ghost use Rattle.std.specs.Prelude.{◌≤◌};
 
 use answers::Told;
-use libc::STDOUT_FILENO;
+
+const STDOUT: i32 = 1;
 
 fn print_number(text: &[u8], number: usize) {
-    io::write_all(STDOUT_FILENO, text);
-    io::print_decimal(STDOUT_FILENO, number as u64);
+    io::write_all(STDOUT, text);
+    io::print_decimal(STDOUT, number as u64);
 }
 
 fn print_line(name: &[u8], n: usize, room: usize, told: Told) {
-    io::write_all(STDOUT_FILENO, name);
+    io::write_all(STDOUT, name);
     print_number(b": ", n);
     print_number(b" components, room for ", room);
     if told.refused == 0 {
@@ -23,7 +24,7 @@ fn print_line(name: &[u8], n: usize, room: usize, told: Told) {
         print_number(b": refused ", told.refused);
         print_number(b", count ", told.count);
     }
-    io::write_all(STDOUT_FILENO, b"\n");
+    io::write_all(STDOUT, b"\n");
 }
 
 // Three vertices have 3 * (3 + n) numbers; with 33 components that is 108.

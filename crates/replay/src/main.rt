@@ -20,16 +20,20 @@
 // Files are named in args. A case that is cut, or is none by the above, disagrees and ends its file.
 #![tactic(auto)]
 
-ghost use Rattle.std.specs.Prelude.{◌≡◌};
+ghost use Rattle.std.specs.Prelude.{◌≡◌, ◌≤◌, length};
 ghost use Rattle.replay.specs.Tallies.{tally};
 
 use crate::replaying::{Replayed, Seen};
 use decode::stored::big_endian;
-use libc::STDOUT_FILENO;
+use std::env;
+use std::fs::File;
+use std::io::Read;
 
 mod calls;
 mod digests;
 mod replaying;
+
+const STDOUT: i32 = 1;
 
 // The cases of a file that agree and that disagree.
 #[derive(Clone, Copy)]
@@ -39,12 +43,12 @@ struct Tally {
 }
 
 fn print(text: &[u8]) {
-    io::write_all(STDOUT_FILENO, text);
+    io::write_all(STDOUT, text);
 }
 
 fn print_number(text: &[u8], number: u64) {
     print(text);
-    io::print_decimal(STDOUT_FILENO, number);
+    io::print_decimal(STDOUT, number);
 }
 
 fn print_unreadable(name: &[u8], number: u64) {
@@ -60,9 +64,9 @@ fn print_seen(name: &[u8], number: u64, function: u64, seen: Seen) {
     print_number(b", answers refused ", seen.refused as u64);
     print_number(b", count ", seen.count as u64);
     print(b", sums ");
-    io::print_hex(STDOUT_FILENO, seen.first, 16);
+    io::print_hex(STDOUT, seen.first, 16);
     print(b" ");
-    io::print_hex(STDOUT_FILENO, seen.second, 16);
+    io::print_hex(STDOUT, seen.second, 16);
     print(b"\n");
 }
 
@@ -95,34 +99,48 @@ fn replay_file(name: &[u8], file: &[u8]) -> Tally
     Tally { agree, disagree }
 }
 
+// Reads until the buffer is full, the input ends or a read fails, and answers how many bytes came.
+fn read_full(reader: &mut impl Read, buffer: &mut [u8]) -> usize
+    ensures { result ≤ length buffer.new }
+{
+    let mut done: usize = 0;
+    while done < buffer.len() {
+        let Ok(n) = reader.read(&mut buffer[done..]) else {
+            break;
+        };
+        if n == 0 {
+            break;
+        }
+        done += n;
+    }
+    done
+}
+
 // Replays the file that an argument names, and prints its tally.
-fn replay_argument(i: usize) {
-    let mut buffer = io::buffer();
-    let length = os::arg(i, &mut buffer);
-    let name = &buffer[..length];
-    let fd = os::open_read(name);
-    if fd < 0 {
-        print(name);
+fn replay_argument(rt: &HostRuntime, name: &str) {
+    let text = name.as_bytes();
+    let Ok(mut reader) = File::open(rt, name) else {
+        print(text);
         print(b": can't be opened\n");
         return;
-    }
-    let mut file = io::large_buffer();
-    let n = io::read_full(fd, &mut file);
-    libc::close(fd);
+    };
+    let mut file = [0u8; 65536];
+    let n = read_full(&mut reader, &mut file);
     if n == 65536 {
-        print(name);
+        print(text);
         print(b": too long\n");
         return;
     }
-    let tally = replay_file(name, &file[..n]);
-    print(name);
+    let tally = replay_file(text, &file[..n]);
+    print(text);
     print_number(b": ", tally.agree);
     print_number(b" agree, ", tally.disagree);
     print(b" disagree\n");
 }
 
-fn main() {
-    for i in 1..os::arg_count() {
-        replay_argument(i);
+fn main(rt: HostRuntime) -> std::io::Result<()> {
+    for name in env::args(&rt)?.skip(1) {
+        replay_argument(&rt, name.as_str());
     }
+    Ok(())
 }

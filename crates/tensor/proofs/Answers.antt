@@ -1,5 +1,5 @@
 -- The answers of the public functions, for any way of turning. Assumes nothing.
-use Prim.Native.Nat.{ℕ, ◌+◌, ◌*◌, ◌/◌, ◌≤◌, ◌<◌}
+use Prim.Native.Nat.{ℕ, ◌+◌, ◌*◌, ◌≤◌, ◌<◌}
 use mathlib.Core.Path.{◌≡◌, sym, ap, ◌∙◌}
 use mathlib.Core.Bool.{Bool, true, false}
 use mathlib.Core.List.{List}
@@ -27,10 +27,6 @@ some_left rest h = ne_eqb rest 0 (λ e. omega arith)
 
 pub none_left : (rest : ℕ) → rest ≤ 0 → eqb rest 0 ≡ true
 none_left rest h = eq-eqb rest 0 (omega arith)
-
--- what no more patches than numbers need, at 32 components
-pub few_places : (count row : ℕ) → count ≤ most_numbers → row ≤ 192 → count * row ≤ most_numbers * 192
-few_places count row h g = mul-le-mul h g
 
 module _ {A B : Type 0} (T : Turning A B) (n size : ℕ) (whole : Bool) (ps : List (Patch (List A) (List A))) (l : List B) where
   pub many_components : most_components < n → Done (turned T n size whole ps (length l)) l (Refused Components) l

@@ -62,8 +62,8 @@ module _ {A B : Type 0} (T : Turning A B) where
       let four : length (map (map T.border) points) ≡ 4 = rw length-map (length_at b.points s.points (rw z.0 f.1) ∙ f.0.0) in
       let two : length (map (map T.colour) colours) ≡ 2 = rw length-map (length_at b.colours s.colours (rw z.1 f.2) ∙ f.0.1) in
       let turned = side_turned b s z f in (
-        rw (map-append, append_assoc) (take_at (map (map T.border) points) _ 4 four) ∙ sym turned.0,
-        rw map-append (take_at (map (map T.colour) colours) _ 2 two) ∙ sym turned.1,
+        rw (map-append (map T.border) points o.points, append_assoc) (take_at (map (map T.border) points) _ 4 four) ∙ sym turned.0,
+        rw (map-append (map T.colour) colours o.colours) (take_at (map (map T.colour) colours) _ 2 two) ∙ sym turned.1,
       )
 
   -- for patches joined by flags 1 to 3 the shared side is the same after turning

@@ -61,7 +61,7 @@ module _ (n : ℕ) where
           let size : ℕ = coords + colours * n in
           let due : List ℕ = replicate coords 32 ++ replicate (colours * n) 32 in
           let long : length due ≡ size = simp (length-append, length-replicate) in
-          let widest = all_append Widest (replicate coords 32) _ (all_replicate Widest coords 32 refl) (all_replicate Widest (colours * n) 32 refl) in
+          let widest : All Widest due = all_append Widest (replicate coords 32) _ (all_replicate Widest coords 32 refl) (all_replicate Widest (colours * n) 32 refl) in
           let short : length (drop size xs) ≤ k = rw length-drop (omega arith) in
           rw (e, packed, whole_records)
           (there_field 32 x (packed F true due xs) refl a.0

@@ -1,7 +1,5 @@
 -- `bits::first_eight` meets its contract: the loop accumulates the number of the first k, by `gathers_padded` of proofs/Gathering.antt.
 -- Assumes nothing.
-use Prim.Native.Nat.{◌-◌, ◌≤◌}
-use mathlib.Core.Path.{◌≡◌}
 use mathlib.Core.List.{◌++◌}
 use native.Mathlib.Omega.{arith}
 use lib.ListN.{replicate}

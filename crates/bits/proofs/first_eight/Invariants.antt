@@ -1,12 +1,9 @@
 -- `bits::first_eight` meets its contract: the loop accumulates the number of the first k, by `gathers_padded` of proofs/Gathering.antt.
 -- Assumes nothing.
 use Prim.Native.Nat.{◌-◌, ◌≤◌}
-use mathlib.Core.Path.{◌≡◌}
 use mathlib.Core.List.{◌++◌}
-use native.Mathlib.Omega.{arith}
 use lib.ListN.{replicate}
 use Rattle.bits.specs.Inner.Gathering.{Gathers}
-use Rattle.bits.proofs.Gathering.{gathers_none, gathers_next, gathers_padded}
 use Rattle.bits.proofs.first_eight.Given as goal
 
 abbrev pub invariant-loop-k : goal.invariant-loop-k

@@ -1,7 +1,7 @@
 -- `decode::decode_scale` meets its contract. A width up to 32 leaves 2 ^ w whole in a u64, and 2 ^ w - 1 is a whole number that an f64 counts. Assumes nothing.
-use Rattle.std.proofs.Common.{◌≡◌, ℕ, ◌-◌, ◌*◌, ◌%◌, ◌^◌, ◌≤◌, ap, ◌∙◌, mod-eq_of_lt, one-mul, arith, le→leb, pow_pos, pow_mono, rules, le-leb}
+use Rattle.std.proofs.Common.{◌≡◌, ℕ, ◌*◌, ◌%◌, ◌^◌, ◌≤◌, ap, ◌∙◌, mod-eq_of_lt, one-mul, arith, pow_mono, le-leb}
 use borrow.Author.Tests.{lt-leb}
-use lib.Ieee.{of_bits, in_float}
+use lib.Ieee.{of_bits}
 use Rattle.decode.specs.Decode.{scale_of}
 use Rattle.decode.proofs.decode_scale.Goals as goal
 

@@ -1,5 +1,5 @@
 -- `decode::float_of` meets its contract: the patterns above infinity's are those of NaNs, and 0.0 / 0.0 is a NaN. Assumes nothing.
-use Rattle.std.proofs.Common.{◌≡◌, Bool, true, not, T, sym, refl, ◌∙◌, subst, rules, le-ltb, lt-ltb}
+use Rattle.std.proofs.Common.{◌≡◌, Bool, true, not, T, sym, refl, ◌∙◌, subst, le-ltb, lt-ltb}
 use lib.Ieee.{Float, nan, inf, fin, binary64, is_nan, of_bits, div}
 use lib.Ieee.Bits.{nan_bits_is, nan_bits_above}
 use Rattle.decode.proofs.float_of.Goals as goal

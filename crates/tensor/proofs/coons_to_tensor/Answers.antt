@@ -1,13 +1,11 @@
 -- `tensor::coons_to_tensor` meets its contract. Assumes nothing.
-use mathlib.Core.Path.{◌≡◌, sym}
-use Prim.Native.Nat.{◌+◌, ◌*◌, ◌/◌}
-use native.Mathlib.Nat.{le_trans, div-add-mod', div-le_self}
+use mathlib.Core.Path.{sym}
+use Prim.Native.Nat.{◌+◌}
 use native.Mathlib.Omega.{arith}
-use lib.ListN.{length}
 use Rattle.tensor.specs.Turning.{rounded}
 use Rattle.tensor.specs.Outcomes.{coons_size, coons_to_tensor}
 use Rattle.tensor.proofs.FloatRows.{length_read, read_numbered}
-use Rattle.tensor.proofs.Answers.{some_left, none_left, few_places, many_components, many_numbers, not_whole, small_output, wrote_all}
+use Rattle.tensor.proofs.Answers.{some_left, none_left, many_components, many_numbers, not_whole, small_output, wrote_all}
 use Rattle.tensor.proofs.coons_to_tensor.Goals as goal
 
 pub returns-then-n-gt-MOST_COMPONENTS : goal.returns-then-n-gt-MOST_COMPONENTS

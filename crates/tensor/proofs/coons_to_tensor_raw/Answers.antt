@@ -1,34 +1,16 @@
 -- `tensor::coons_to_tensor_raw` meets its contract. Assumes nothing.
-use Prim.Native.Nat.{ℕ, ◌+◌, ◌*◌, ◌≤◌}
-use mathlib.Core.Path.{◌≡◌, refl, sym, subst, ◌∙◌}
-use mathlib.Core.Bool.{true, false}
-use mathlib.Core.List.{List}
+use Prim.Native.Nat.{◌+◌, ◌*◌}
+use mathlib.Core.Path.{refl, sym, ◌∙◌}
 use native.Mathlib.Omega.{arith}
-use lib.ListN.{length}
 use Rattle.records.specs.Format.{whole_number}
 use Rattle.rules.specs.Patches.{sides}
 use Rattle.rules.proofs.Meshes.{patches_numbered}
 use Rattle.rules.proofs.Tables.{sides_fit}
 use Rattle.tensor.specs.Turning.{raw}
-use Rattle.tensor.specs.Outcomes.{whole_records, coons_to_tensor_raw}
-use Rattle.tensor.specs.Inner.Standing.{patches_of, FewPatches}
+use Rattle.tensor.specs.Outcomes.{coons_to_tensor_raw}
 use Rattle.tensor.proofs.Walk.{told_broken, told_patches}
-use Rattle.tensor.proofs.Answers.{few_places, many_components, many_numbers, not_whole, small_output, wrote_all}
+use Rattle.tensor.proofs.Answers.{many_components, many_numbers, not_whole, small_output, wrote_all}
 use Rattle.tensor.proofs.coons_to_tensor_raw.Goals as goal
-use Rattle.tensor.proofs.coons_to_tensor_raw.Goals.{In-Patches-2}
-
-module _ (k : In-Patches-2) where
-  abbrev n : ℕ
-  n = k.args.n
-
-  abbrev numbers : List ℕ
-  numbers = k.args.numbers.now
-
-  counted : (whole_records (length numbers) n false numbers ≡ true) × (k.in-Patches.count ≡ length (patches_of n numbers))
-  counted = told_patches _ _ _ (sym k.count_patches-counted.ensures.value ∙ k.in-Patches.is)
-
-  few : k.in-Patches.count ≤ length numbers
-  few = k.in-Patches.ensures.1
 
 pub returns-then-n-gt-MOST_COMPONENTS : goal.returns-then-n-gt-MOST_COMPONENTS
 unfolding coons_to_tensor_raw
@@ -46,12 +28,13 @@ returns-in_default c =
 pub returns-then-out-needed : goal.returns-then-out-needed
 unfolding coons_to_tensor_raw
 returns-then-out-needed c =
-    let k = (goal.at.returns-then-out-needed c).In-Patches-2 in
-    small_output raw _ _ _ _ _ (omega arith) (omega arith) (counted k).0 (n k) (32 + 4 * n k) refl
-    (patches_numbered 0 whole_number 8 (n k) sides sides_fit.0 (numbers k)) (counted k).1 c.if-out-needed.true
+    let n = c.args.n in
+    let counted = told_patches _ _ _ (sym c.count_patches-counted.ensures.value ∙ c.in-Patches.is) in
+    small_output raw _ _ _ _ _ (omega arith) (omega arith) counted.0 n (32 + 4 * n) refl
+    (patches_numbered 0 whole_number 8 n sides sides_fit.0 c.args.numbers.now) counted.1 c.if-out-needed.true
 
 pub returns : goal.returns
 unfolding coons_to_tensor_raw
 returns c =
-    let k = (goal.at.returns c).In-Patches-2 in
-    wrote_all raw _ _ _ _ _ (omega arith) (omega arith) (counted k).0 (counted k).1 c.write_patches.ensures
+    let counted = told_patches _ _ _ (sym c.count_patches-counted.ensures.value ∙ c.in-Patches.is) in
+    wrote_all raw _ _ _ _ _ (omega arith) (omega arith) counted.0 counted.1 c.write_patches.ensures

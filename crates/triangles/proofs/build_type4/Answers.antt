@@ -1,8 +1,6 @@
 -- `triangles::build_type4` meets its contract: each refusal in its order, then the core over the list. Assumes nothing.
-use mathlib.Core.Path.{refl}
-use native.Mathlib.Omega.{arith}
 use Rattle.meshes.proofs.Endings.{list_components, list_too_long}
-use Rattle.triangles.proofs.Ends.{there_list, list4_ended}
+use Rattle.triangles.proofs.Ends.{list4_ended}
 use Rattle.triangles.proofs.build_type4.Goals as goal
 
 pub returns-then-n-gt-MOST_COMPONENTS : goal.returns-then-n-gt-MOST_COMPONENTS
@@ -12,6 +10,6 @@ pub returns-then-values-gt-MOST_NUMBERS : goal.returns-then-values-gt-MOST_NUMBE
 returns-then-values-gt-MOST_NUMBERS c = list_too_long _ _ _ _ c.if-n-gt-MOST_COMPONENTS.false c.if-values-gt-MOST_NUMBERS.true
 
 pub returns : goal.returns
-returns c = 
+returns c =
     let e = c.vertices_in-vertices.ensures in
-    list4_ended _ _ c.args.n _ c.if-n-gt-MOST_COMPONENTS.false c.if-values-gt-MOST_NUMBERS.false _ c.args.last_three_lem (rw e at c.free_form_lem.ensures)
+    list4_ended _ _ c.args.n _ c.if-n-gt-MOST_COMPONENTS.false c.if-values-gt-MOST_NUMBERS.false _ c.args.last_three (rw e at c.free_form.ensures)

@@ -1,7 +1,6 @@
 -- `triangles::build_type5` meets its contract: each refusal in its order, then the core over the list. Assumes nothing.
-use native.Mathlib.Omega.{arith}
 use Rattle.meshes.proofs.Endings.{list_components, list_too_long}
-use Rattle.triangles.proofs.Ends.{there_list, list5_ended}
+use Rattle.triangles.proofs.Ends.{list5_ended}
 use Rattle.triangles.proofs.build_type5.Goals as goal
 
 pub returns-then-n-gt-MOST_COMPONENTS : goal.returns-then-n-gt-MOST_COMPONENTS
@@ -11,6 +10,6 @@ pub returns-then-values-gt-MOST_NUMBERS : goal.returns-then-values-gt-MOST_NUMBE
 returns-then-values-gt-MOST_NUMBERS c = list_too_long _ _ _ _ c.if-n-gt-MOST_COMPONENTS.false c.if-values-gt-MOST_NUMBERS.true
 
 pub returns : goal.returns
-returns c = 
+returns c =
     let e = c.vertices_in-vertices.ensures in
-    list5_ended _ _ c.args.n _ c.if-n-gt-MOST_COMPONENTS.false c.if-values-gt-MOST_NUMBERS.false _ c.args.row (rw e at c.lattice_form_lem.ensures)
+    list5_ended _ _ c.args.n _ c.if-n-gt-MOST_COMPONENTS.false c.if-values-gt-MOST_NUMBERS.false _ c.args.row (rw e at c.lattice_form.ensures)

@@ -1,7 +1,6 @@
 -- `decode::stored::big_endian` meets its contract: after i bytes the number is theirs, and below 256 ^ i. Assumes nothing.
-use Rattle.std.proofs.Common.{◌≡◌, ◌+◌, ◌-◌, ◌^◌, ◌<◌, ◌≤◌, get_or, sym, refl, ◌∙◌, arith, rules}
+use Rattle.std.proofs.Common.{◌≡◌, ◌-◌, ◌^◌, ◌<◌, ◌≤◌}
 use Rattle.decode.specs.Stored.{big_endian}
-use Rattle.decode.proofs.BigEndian.{big_endian-more, no_bytes, byte_more, byte_fits, number_too_long, number_cut, number_there}
 use Rattle.decode.proofs.stored.big_endian.Given as goal
 
 abbrev pub invariant-loop-i : goal.invariant-loop-i

@@ -1,10 +1,7 @@
 -- `decode::stored::read_floats` meets its contract: after i turns the output begins with the first i floats. Assumes nothing.
-use Rattle.std.proofs.Common.{◌≡◌, ◌+◌, ◌-◌, ◌*◌, ◌≤◌, length, refl, ap, ◌∙◌, arith, length-set, rules}
-use lib.Ieee.{binary64, of_bits}
+use Rattle.std.proofs.Common.{◌≡◌, ◌-◌, ◌≤◌, length}
 use Rattle.lists.specs.Writing.{Written}
-use Rattle.lists.proofs.Writing.{written_start, written_store}
 use Rattle.decode.specs.Stored.{floats_at}
-use Rattle.decode.proofs.BigEndian.{number_there, floats_cut, floats_crowded, floats_held}
 use Rattle.decode.proofs.stored.read_floats.Given as goal
 
 abbrev pub invariant-loop-i : goal.invariant-loop-i

@@ -1,11 +1,7 @@
 -- `tensor::float::copy` meets its contract. Assumes nothing.
-use Prim.Native.Nat.{◌+◌, ◌-◌, ◌≤◌}
-use mathlib.Core.Path.{◌≡◌, refl}
+use mathlib.Core.Path.{refl}
 use native.Mathlib.Omega.{arith}
-use lib.ListN.{length, length-set}
-use lib.Ieee.{nan}
-use Rattle.lists.specs.Lists.{part}
-use Rattle.lists.specs.Writing.{Written}
+use lib.ListN.{length-set}
 use Rattle.lists.proofs.Writing.{copy_none, copy_more}
 use borrow.Author.Rules.{rules}
 use Rattle.tensor.proofs.float.copy.Goals as goal

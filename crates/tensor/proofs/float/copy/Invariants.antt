@@ -1,12 +1,10 @@
 -- `tensor::float::copy` meets its contract. Assumes nothing.
 use Prim.Native.Nat.{◌+◌, ◌-◌, ◌≤◌}
-use mathlib.Core.Path.{◌≡◌, refl}
-use native.Mathlib.Omega.{arith}
-use lib.ListN.{length, length-set}
+use mathlib.Core.Path.{◌≡◌}
+use lib.ListN.{length}
 use lib.Ieee.{nan}
 use Rattle.lists.specs.Lists.{part}
 use Rattle.lists.specs.Writing.{Written}
-use Rattle.lists.proofs.Writing.{copy_none, copy_more}
 use Rattle.tensor.proofs.float.copy.Given as goal
 
 abbrev pub invariant-loop-k : goal.invariant-loop-k

@@ -1,32 +1,12 @@
 -- `tensor::float::write_patches` meets its contract. Assumes nothing.
-use Prim.Native.Nat.{ℕ, ◌+◌, ◌*◌, ◌-◌, ◌≤◌}
+use Prim.Native.Nat.{ℕ, ◌+◌, ◌*◌}
 use mathlib.Core.Path.{◌≡◌, refl, sym}
 use native.Mathlib.Nat.{zero-mul}
 use native.Mathlib.Omega.{arith}
-use lib.ListN.{length}
-use Rattle.lists.specs.Lists.{joined}
-use Rattle.lists.specs.Writing.{Written}
-use Rattle.lists.proofs.Writing.{written_length, written_start, written_more}
+use Rattle.lists.proofs.Writing.{written_start, written_more}
 use Rattle.tensor.specs.Outcomes.{coons_size}
 use Rattle.tensor.proofs.FloatRows.{row_at, next_place, place_there, float_written, rows_read}
 use Rattle.tensor.proofs.float.write_patches.Goals as goal
-use Rattle.tensor.proofs.float.write_patches.Goals.{After-copy-p, In-loop-k}
-
-module _ (c : In-loop-k) where
-  there : c.loop-k.from + coons_size c.args.n
-      ≤ length c.args.values.now
-  there =
-      let whole : c.args.count * coons_size c.args.n ≤ length c.args.values.now = omega (arith, c.requires.2) in
-      omega (arith, place_there c.loop-k.k c.args.count (coons_size c.args.n) c.loop-k-test.true whole)
-
-  room : c.loop-k.at + (coons_size c.args.n + 8) ≤ length c.loop-k.out
-  room =
-      omega (arith, place_there c.loop-k.k c.args.count (coons_size c.args.n + 8) c.loop-k-test.true c.requires.3)
-
-module _ (c : After-copy-p) where
-  room_left : c.copy-p.result + (8 + 4 * (8 + c.args.n))
-      ≤ length c.loop-k.out
-  room_left = omega (arith, room c, c.copy-p.ensures.value)
 
 pub loop-k-init : goal.loop-k-init
 loop-k-init c = (omega arith, sym (zero-mul _), sym (zero-mul _), refl, refl, written_start _ 0 _ (omega arith))
@@ -36,11 +16,12 @@ loop-k-preserved c =
     let l = c.loop-k in
     let a = c.args in
     let f : l.from ≡ l.k * coons_size a.n = l.invariant.1 in
+    let room = place_there l.k a.count (coons_size a.n + 8) c.loop-k-test.true c.requires.3 in
     let bordered = c.copy-p.ensures in
     let coloured = c.copy-at.ensures in
     let row = float_written a.n a.values.now l.from refl c.copy.ensures.written bordered.written
     c.write_along.ensures c.write_along-in-loop-k.ensures coloured.written
-    (omega (arith, room_left c)) in (
+    (omega (arith, room, bordered.value)) in (
       omega arith,
       omega (arith, next_place l.k (coons_size a.n)),
       omega (arith, next_place l.k (coons_size a.n + 8), bordered.value, coloured.value),

@@ -1,10 +1,7 @@
 -- `tensor::raw::copy` meets its contract. Assumes nothing.
-use Prim.Native.Nat.{◌+◌, ◌-◌, ◌≤◌}
-use mathlib.Core.Path.{◌≡◌, refl}
+use mathlib.Core.Path.{refl}
 use native.Mathlib.Omega.{arith}
-use lib.ListN.{length, length-set}
-use Rattle.lists.specs.Lists.{part}
-use Rattle.lists.specs.Writing.{Written}
+use lib.ListN.{length-set}
 use Rattle.lists.proofs.Writing.{copy_none, copy_more}
 use borrow.Author.Rules.{rules}
 use Rattle.tensor.proofs.raw.copy.Goals as goal

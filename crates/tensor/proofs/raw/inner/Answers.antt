@@ -1,6 +1,7 @@
 -- `tensor::raw::inner` meets its contract. Assumes nothing.
-use Prim.Native.Nat.{◌+◌, ◌*◌}
+use Prim.Native.Nat.{◌+◌, ◌*◌, ◌^◌, ◌<◌}
 use mathlib.Core.Path.{sym}
+use native.Mathlib.Omega.{arith}
 use mir.Syntax.{w64}
 use mir.Facts.{to_z_pos}
 use Rattle.tensor.specs.Formulas.{ninefold}
@@ -12,8 +13,8 @@ pub returns : goal.returns
 unfolding ninefold
 returns c =
     let v = c.args in
-    let more = (cast-result c).sfits in
-    let less = (cast-result-2 c).sfits in
+    let more : 6 * (v.b + v.c) + 3 * (v.f + v.g) < 2 ^ 63 = omega arith in
+    let less : 4 * v.a + 2 * (v.d + v.e) + v.h < 2 ^ 63 = omega arith in
     rw (to_z_pos w64 more, to_z_pos w64 less)
     (told (difference_fits _ _ more less).sfits
     (sym (gathered (4 * v.a) (6 * (v.b + v.c)) (2 * (v.d + v.e)) (3 * (v.f + v.g)) v.h)))

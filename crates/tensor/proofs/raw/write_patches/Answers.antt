@@ -1,10 +1,8 @@
 -- `tensor::raw::write_patches` meets its contract. Assumes nothing.
-use Prim.Native.Nat.{◌-◌, ◌≤◌}
-use mathlib.Core.Path.{◌≡◌, refl, ◌∙◌}
+use mathlib.Core.Path.{refl, ◌∙◌}
 use native.Mathlib.Omega.{arith}
-use lib.ListN.{length}
 use Rattle.lists.proofs.Writing.{written_length}
-use Rattle.tensor.proofs.Passing.{Pass, pass_start, here, has_side, pass_room, pass_next, pass_end}
+use Rattle.tensor.proofs.Passing.{pass_start, here, has_side, pass_room, pass_next, pass_end}
 use Rattle.tensor.proofs.raw.write_patches.Goals as goal
 
 pub loop-i-init : goal.loop-i-init

@@ -1,10 +1,8 @@
 -- `tensor::raw::write_patches` meets its contract. Assumes nothing.
 use Prim.Native.Nat.{◌-◌, ◌≤◌}
-use mathlib.Core.Path.{◌≡◌, refl, ◌∙◌}
-use native.Mathlib.Omega.{arith}
+use mathlib.Core.Path.{◌≡◌}
 use lib.ListN.{length}
-use Rattle.lists.proofs.Writing.{written_length}
-use Rattle.tensor.proofs.Passing.{Pass, pass_start, here, has_side, pass_room, pass_next, pass_end}
+use Rattle.tensor.proofs.Passing.{Pass}
 use Rattle.tensor.proofs.raw.write_patches.Given as goal
 
 abbrev pub invariant-loop-i : goal.invariant-loop-i

@@ -1,15 +1,12 @@
 -- `tensor::raw::write_times` meets its contract: after k turns the first k numbers stand. Assumes nothing.
-use Prim.Native.Nat.{ℕ, ◌+◌, ◌*◌, ◌-◌, ◌≤◌}
+use Prim.Native.Nat.{ℕ, ◌+◌, ◌*◌}
 use mathlib.Core.Path.{◌≡◌, refl}
-use mathlib.Core.List.{[], ◌∷◌}
 use native.Mathlib.Nat.{add-zero, add_assoc}
 use native.Mathlib.Omega.{arith}
 use lib.IntN.{ℤ, pos}
-use lib.ListN.{length, length-set, get_or}
+use lib.ListN.{length-set, get_or}
 use mir.Syntax.{w64}
 use mir.Facts.{to_z_pos}
-use Rattle.lists.specs.Lists.{joined}
-use Rattle.lists.specs.Writing.{Written}
 use Rattle.lists.proofs.Writing.{written_start, written_store}
 use Rattle.tensor.proofs.RawRows.{times_small, mapped}
 use Rattle.tensor.proofs.raw.write_times.Goals as goal
@@ -21,10 +18,12 @@ pub loop-k-preserved : goal.loop-k-preserved
 loop-k-preserved c =
     let l = c.loop-k in
     let a = c.args in
+    let x = get_or a.numbers.now (a.from + l.k) 0 in
+    let small = times_small a.factor x c.requires.0 (omega (arith, c.type_inv.numbers (a.from + l.k))) in
     let f : ℕ → ℤ = λ (j : ℕ). pos (a.factor * get_or a.numbers.now (a.from + j) 0) in (
       omega arith,
       simp length-set (omega arith),
-      rw (← (add_assoc a.at l.k 1)) (written_store l.k f l.invariant.2 (omega arith) (to_z_pos w64 (cast-out c).sfits)),
+      rw (← (add_assoc a.at l.k 1)) (written_store l.k f l.invariant.2 (omega arith) (to_z_pos w64 small)),
     )
 
 pub returns-clause-written : goal.returns-clause-written

@@ -1,17 +1,11 @@
 -- `tensor::raw::write_times` meets its contract: after k turns the first k numbers stand. Assumes nothing.
 use Prim.Native.Nat.{ℕ, ◌+◌, ◌*◌, ◌-◌, ◌≤◌}
-use mathlib.Core.Path.{◌≡◌, refl}
+use mathlib.Core.Path.{◌≡◌}
 use mathlib.Core.List.{[], ◌∷◌}
-use native.Mathlib.Nat.{add-zero, add_assoc}
-use native.Mathlib.Omega.{arith}
-use lib.IntN.{ℤ, pos}
-use lib.ListN.{length, length-set, get_or}
-use mir.Syntax.{w64}
-use mir.Facts.{to_z_pos}
+use lib.IntN.{pos}
+use lib.ListN.{length, get_or}
 use Rattle.lists.specs.Lists.{joined}
 use Rattle.lists.specs.Writing.{Written}
-use Rattle.lists.proofs.Writing.{written_start, written_store}
-use Rattle.tensor.proofs.RawRows.{times_small, mapped}
 use Rattle.tensor.proofs.raw.write_times.Given as goal
 
 abbrev pub invariant-loop-k : goal.invariant-loop-k

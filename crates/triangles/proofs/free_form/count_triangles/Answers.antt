@@ -1,9 +1,8 @@
 -- `triangles::free_form::count_triangles` meets its contract: the walk over the flags, counting. Assumes nothing.
-use Prim.Native.Nat.{◌-◌}
 use mathlib.Core.Path.{sym, ◌∙◌}
 use native.Mathlib.Omega.{arith}
-use Rattle.triangles.specs.Inner.Vertices.{flag_of_vertex, triangles_in}
-use Rattle.triangles.proofs.Counting.{Counting, counting_start, counting_first, counting_cut, counting_end, counting_alone, counting_far, counting_joined}
+use Rattle.triangles.specs.Inner.Vertices.{triangles_in}
+use Rattle.triangles.proofs.Counting.{counting_start, counting_first, counting_cut, counting_end, counting_alone, counting_far, counting_joined}
 use Rattle.triangles.proofs.free_form.count_triangles.Goals as goal
 
 pub loop-i-init : goal.loop-i-init

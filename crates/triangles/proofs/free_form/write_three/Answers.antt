@@ -1,5 +1,4 @@
 -- `triangles::free_form::write_three` meets its contract: three rows, one after the other. Assumes nothing.
-use native.Mathlib.Omega.{arith}
 use Rattle.lists.proofs.Writing.{written_then}
 use Rattle.rules.specs.Triangles.{corners}
 use Rattle.triangles.proofs.free_form.write_three.Goals as goal

@@ -1,6 +1,5 @@
 -- `triangles::vertices::flag_at` meets its contract: what is left by the mask of the number where the vertex begins. Assumes nothing.
-use native.Mathlib.Omega.{arith}
-use Rattle.triangles.proofs.Rows.{place_small, flag_here}
+use Rattle.triangles.proofs.Rows.{flag_here}
 use Rattle.triangles.proofs.vertices.flag_at.Goals as goal
 
 pub returns : goal.returns
