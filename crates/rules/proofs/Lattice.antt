@@ -9,7 +9,7 @@ use lib.ListN.{length}
 use Rattle.lists.specs.Lists.{joined, All, Begins}
 use Rattle.lists.proofs.Pieces.{length-joined, joined_same}
 use Rattle.rules.specs.Triangles.{Tri}
-use Rattle.rules.specs.Lattice.{cell, lattice}
+use Rattle.rules.specs.Lattice.{lattice}
 use Rattle.rules.specs.Clauses.{upper, lower, turned}
 use Rattle.rules.proofs.Properties.{CornersBelow}
 use Rattle.rules.proofs.Lists.{all_joined, joined_begins, div_grows}

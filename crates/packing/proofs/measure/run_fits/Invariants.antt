@@ -1,10 +1,8 @@
 -- `packing::measure::run_fits_lem` meets its contract: the or of the numbers passed fits exactly when each does. Assumes nothing.
 use Prim.Native.Nat.{◌-◌, ◌^◌, ◌≤◌}
-use mathlib.Core.Path.{◌≡◌, ◌∙◌}
+use mathlib.Core.Path.{◌≡◌}
 use lib.Dec.{ltb}
-use native.Mathlib.Omega.{arith}
 use Rattle.packing.specs.Inner.Passes.{run_at, fits}
-use Rattle.packing.proofs.Runs.{or_none, or_more}
 use Rattle.packing.proofs.measure.run_fits.Given as goal
 
 abbrev pub invariant-loop-k : goal.invariant-loop-k

@@ -1,12 +1,6 @@
 -- `packing::put::put_run` meets its contract: after k turns the first k numbers of the run are put. Assumes nothing.
 use Prim.Native.Nat.{◌-◌, ◌≤◌}
-use mathlib.Core.Path.{◌≡◌}
-use native.Mathlib.Nat.{mul-le-mul_right}
-use native.Mathlib.Omega.{arith}
-use Rattle.lists.specs.Lists.{flat}
 use Rattle.packing.specs.Inner.Passes.{run_at, run_bits, Put}
-use Rattle.packing.proofs.Runs.{run_fits-at, run_bits-more, length-run_bits}
-use Rattle.packing.proofs.Putting.{put_none, put_then, put_place, put_length}
 use Rattle.packing.proofs.put.put_run.Given as goal
 
 abbrev pub invariant-loop-k : goal.invariant-loop-k

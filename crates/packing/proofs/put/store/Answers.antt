@@ -1,11 +1,8 @@
 -- `packing::put::store` meets its contract: after k turns the high k of the bytes are stored. Assumes nothing.
-use native.Mathlib.Nat.{div-one}
 use lib.Pow.{shr-shr}
-use Rattle.lists.proofs.Writing.{written_length}
-use Prim.Native.Nat.{◌+◌, ◌-◌, ◌*◌, ◌/◌, ◌^◌, ◌≤◌}
+use Prim.Native.Nat.{◌+◌, ◌-◌, ◌*◌, ◌/◌, ◌^◌}
 use mathlib.Core.Path.{◌≡◌}
 use native.Mathlib.Omega.{arith}
-use Rattle.packing.specs.Inner.Passes.{Stored}
 use Rattle.packing.proofs.Putting.{stored_none, stored_more}
 use Rattle.packing.proofs.put.store.Goals as goal
 

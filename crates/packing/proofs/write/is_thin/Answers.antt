@@ -1,8 +1,5 @@
 -- `packing::write::is_thin` meets its contract: a case for each mesh type. Assumes nothing.
-use Prim.Native.Nat.{◌*◌, ◌≤◌}
-use native.Mathlib.Omega.{arith}
 use Rattle.packing.specs.Writer.{thin}
-use Rattle.packing.proofs.Shapes.{times_few}
 use Rattle.packing.proofs.write.is_thin.Goals as goal
 
 pub returns-in-Four : goal.returns-in-Four

@@ -1,7 +1,7 @@
 -- `packing::write::write` meets its contract: the refusals in their order, and then `pack`.
 -- Assumes nothing.
 use mathlib.Core.Path.{sym, ◌∙◌}
-use borrow.Author.Tests.{not-false, lt-ltb, le-ltb}
+use borrow.Author.Tests.{lt-ltb, le-ltb}
 use Rattle.answers.proofs.Outcomes.{was_refused}
 use Rattle.packing.specs.Writer.{raw_write}
 use Rattle.records.specs.Inner.Walk.{Readable}

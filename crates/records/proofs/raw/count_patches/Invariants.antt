@@ -1,8 +1,7 @@
 -- `records::raw::count_patches` meets its contract: what is counted, with what the records from the place on have, is all. Assumes nothing.
 use Prim.Native.Nat.{◌*◌, ◌-◌}
-use native.Mathlib.Omega.{arith}
 use lib.ListN.{length}
-use Rattle.records.proofs.Walks.{Counting, count_start, count_end, count_step}
+use Rattle.records.proofs.Walks.{Counting}
 use Rattle.records.proofs.raw.count_patches.Given as goal
 
 abbrev pub invariant-loop-coords : goal.invariant-loop-coords

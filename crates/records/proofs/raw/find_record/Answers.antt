@@ -1,5 +1,4 @@
 -- `records::raw::find_record` meets its contract: a case for each `return`. Assumes nothing.
-use mathlib.Core.Path.{sym, ◌∙◌}
 use native.Mathlib.Omega.{arith}
 use Rattle.bits.proofs.Answers.{found, ended}
 use Rattle.records.proofs.Shapes.{small}

@@ -1,7 +1,7 @@
 -- `records::raw::raw_read` meets its contract: the refusals in their order, then the reading, counted before it is written. Assumes nothing.
 use mathlib.Core.Path.{sym, ◌∙◌}
 use native.Mathlib.Omega.{arith}
-use borrow.Author.Tests.{not-true, not-false, lt-ltb, le-ltb}
+use borrow.Author.Tests.{lt-ltb, le-ltb}
 use Rattle.answers.proofs.Outcomes.{was_refused, no_room, all_written}
 use Rattle.records.specs.Raw.{raw_read}
 use Rattle.records.proofs.Walks.{past_tests}

@@ -1,10 +1,6 @@
 -- `records::raw::write_patches` meets its contract: while numbers are left the next patch is whole, and its flag, read back, has its shape.
 -- Assumes nothing.
-use Prim.Native.Nat.{◌-◌}
-use mathlib.Core.Path.{sym, ◌∙◌}
-use native.Mathlib.Omega.{arith}
-use Rattle.lists.proofs.Writing.{written_length}
-use Rattle.records.proofs.Filling.{Filling, fill_start, fill_end, first_run, patch_goes_on, patch_turn, rest_there, patch_done}
+use Rattle.records.proofs.Filling.{fill_start, first_run, patch_goes_on, patch_turn, rest_there, patch_done}
 use Rattle.records.proofs.raw.write_patches.Goals as goal
 
 pub loop-p-init : goal.loop-p-init

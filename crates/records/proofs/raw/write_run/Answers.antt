@@ -1,9 +1,8 @@
 -- `records::raw::write_run` meets its contract: each turn writes the next number of the run, whose bits are all there. Assumes nothing.
-use Prim.Native.Nat.{◌-◌}
-use mathlib.Core.Path.{sym, ◌∙◌}
-use lib.ListN.{replicate, get_or-replicate}
+use mathlib.Core.Path.{sym}
+use lib.ListN.{get_or-replicate}
 use Rattle.records.proofs.Readings.{sum-replicate}
-use Rattle.records.proofs.Runs.{Upto, upto_start, upto_end, upto_goes_on, upto_step, run_there}
+use Rattle.records.proofs.Runs.{upto_start, upto_end, upto_goes_on, upto_step, run_there}
 use Rattle.records.proofs.raw.write_run.Goals as goal
 
 pub loop-k-init : goal.loop-k-init

@@ -1,9 +1,7 @@
 -- `records::raw::write_run` meets its contract: each turn writes the next number of the run, whose bits are all there. Assumes nothing.
 use Prim.Native.Nat.{◌-◌}
-use mathlib.Core.Path.{sym, ◌∙◌}
-use lib.ListN.{replicate, get_or-replicate}
-use Rattle.records.proofs.Readings.{sum-replicate}
-use Rattle.records.proofs.Runs.{Upto, upto_start, upto_end, upto_goes_on, upto_step, run_there}
+use lib.ListN.{replicate}
+use Rattle.records.proofs.Runs.{Upto}
 use Rattle.records.proofs.raw.write_run.Given as goal
 
 abbrev pub invariant-loop-k : goal.invariant-loop-k

@@ -1,12 +1,8 @@
 -- `records::raw::write_vertex` meets its contract: each turn writes the vertex's next number, whose bits are all there. Assumes nothing.
 use Prim.Native.Nat.{◌-◌}
-use mathlib.Core.Path.{sym, ◌∙◌}
 use mathlib.Core.List.{◌∷◌}
-use native.Mathlib.Omega.{arith}
-use Rattle.records.specs.Format.{sum}
 use Rattle.records.specs.Inner.Walk.{widths_after}
-use Rattle.records.proofs.Finding.{sum-after}
-use Rattle.records.proofs.Runs.{Upto, upto_start, upto_end, upto_goes_on, upto_step, record_there}
+use Rattle.records.proofs.Runs.{Upto}
 use Rattle.records.proofs.raw.write_vertex.Given as goal
 
 abbrev pub invariant-loop-k : goal.invariant-loop-k

@@ -1,10 +1,9 @@
 -- `records::raw::write_vertices` meets its contract: while numbers are left the next vertex is whole, and a turn writes it. Assumes nothing.
-use Prim.Native.Nat.{◌-◌}
 use mathlib.Core.Path.{sym}
-use mathlib.Core.Bool.{Bool, true, false}
+use mathlib.Core.Bool.{true, false}
 use native.Mathlib.Omega.{arith}
 use Rattle.records.proofs.Shapes.{small}
-use Rattle.records.proofs.Filling.{Filling, fill_start, fill_end, vertex_turn, turn_done}
+use Rattle.records.proofs.Filling.{fill_start, vertex_turn, turn_done}
 use Rattle.records.proofs.raw.write_vertices.Goals as goal
 
 pub overflow_add-size : goal.overflow_add-size

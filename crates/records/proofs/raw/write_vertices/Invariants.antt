@@ -1,10 +1,7 @@
 -- `records::raw::write_vertices` meets its contract: while numbers are left the next vertex is whole, and a turn writes it. Assumes nothing.
 use Prim.Native.Nat.{◌-◌}
-use mathlib.Core.Path.{sym}
-use mathlib.Core.Bool.{Bool, true, false}
-use native.Mathlib.Omega.{arith}
-use Rattle.records.proofs.Shapes.{small}
-use Rattle.records.proofs.Filling.{Filling, fill_start, fill_end, vertex_turn, turn_done}
+use mathlib.Core.Bool.{Bool}
+use Rattle.records.proofs.Filling.{Filling}
 use Rattle.records.proofs.raw.write_vertices.Given as goal
 
 abbrev pub invariant-loop-p : goal.invariant-loop-p

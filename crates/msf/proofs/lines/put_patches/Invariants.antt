@@ -1,0 +1,16 @@
+-- `msf::lines::put_patches` meets its contract: after i turns the lines of the first i patches stand in `out` from `at`. Assumes nothing.
+use Prim.Native.Nat.{◌+◌, ◌-◌, ◌*◌, ◌≤◌}
+use mathlib.Core.Path.{◌≡◌, refl}
+use native.Mathlib.Nat.{mul-le-mul_right}
+use native.Mathlib.Omega.{arith}
+use lib.ListN.{length}
+use Rattle.lists.specs.Writing.{Written}
+use Rattle.msf.specs.Listing.{patches_lines}
+use Rattle.msf.proofs.Meshes.{patches_none, patches_more}
+use Rattle.msf.proofs.lines.put_patches.Given as goal
+
+abbrev pub invariant-loop-i : goal.invariant-loop-i
+invariant-loop-i l = (l.i ≤ l.count) × (l.p ≡ l.i * l.size) × (l.q ≤ l.at + 17 * (l.i * l.size)) × (length l.out ≡ length l.initial.out) × Written l.initial.out l.out l.at (patches_lines l.points l.n l.numbers l.i) l.q
+
+abbrev pub decreases-loop-i : goal.decreases-loop-i
+decreases-loop-i l = l.count - l.i
