@@ -22,4 +22,4 @@ returns-in-7 c = rw c.in-7.is
 pub returns-in_default : goal.returns-in_default
 unfolding kind_of
 returns-in_default c =
-    simp (ne_eqb _ 4 c.in_default.rest.0.0.0.1, ne_eqb _ 5 c.in_default.rest.0.0.1, ne_eqb _ 6 c.in_default.rest.0.1, ne_eqb _ 7 c.in_default.rest.1)
+    simp (ne_eqb _ 4 c.in_default.in_default-own.rest.0.0.0.1, ne_eqb _ 5 c.in_default.in_default-own.rest.0.0.1, ne_eqb _ 6 c.in_default.in_default-own.rest.0.1, ne_eqb _ 7 c.in_default.in_default-own.rest.1)

@@ -8,4 +8,4 @@ pub returns-clause-written : goal.returns-clause-written
 unfolding patch_lines
 returns-clause-written c =
     let points = c.put_points-p in
-    (written_then points.ensures.1 (rw zero-add at c.put_rows.ensures.written))
+    (written_then points.ensures.written (rw zero-add at c.put_rows.ensures.written))

@@ -1,12 +1,9 @@
 -- `msf::lines::put_patches` meets its contract: after i turns the lines of the first i patches stand in `out` from `at`. Assumes nothing.
 use Prim.Native.Nat.{◌+◌, ◌-◌, ◌*◌, ◌≤◌}
-use mathlib.Core.Path.{◌≡◌, refl}
-use native.Mathlib.Nat.{mul-le-mul_right}
-use native.Mathlib.Omega.{arith}
+use mathlib.Core.Path.{◌≡◌}
 use lib.ListN.{length}
 use Rattle.lists.specs.Writing.{Written}
 use Rattle.msf.specs.Listing.{patches_lines}
-use Rattle.msf.proofs.Meshes.{patches_none, patches_more}
 use Rattle.msf.proofs.lines.put_patches.Given as goal
 
 abbrev pub invariant-loop-i : goal.invariant-loop-i

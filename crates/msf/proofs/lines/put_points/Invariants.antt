@@ -1,13 +1,9 @@
 -- `msf::lines::put_points` meets its contract: after i turns the lines of the first i points stand in `out` from `at`. Assumes nothing.
 use Prim.Native.Nat.{◌+◌, ◌-◌, ◌*◌, ◌≤◌}
-use mathlib.Core.Path.{◌≡◌, refl}
-use native.Mathlib.Omega.{arith}
+use mathlib.Core.Path.{◌≡◌}
 use lib.ListN.{length}
 use Rattle.lists.specs.Writing.{Written}
-use Rattle.lists.proofs.Writing.{written_then}
 use Rattle.msf.specs.Listing.{point_line, lines}
-use Rattle.msf.proofs.Meshes.{lines_none, lines_more}
-use Rattle.msf.proofs.Words.{point_text}
 use Rattle.msf.proofs.lines.put_points.Given as goal
 
 abbrev pub invariant-loop-i : goal.invariant-loop-i

@@ -1,7 +1,5 @@
 -- `msf::lines::put_refused` meets its contract: two words and the line's end; a refusal's number has one digit. Assumes nothing.
-use native.Mathlib.Omega.{arith}
 use Rattle.lists.proofs.Writing.{written_then}
-use Rattle.msf.proofs.Answers.{refusal_small}
 use Rattle.msf.proofs.Words.{refused_text}
 use Rattle.msf.proofs.lines.put_refused.Goals as goal
 

@@ -1,11 +1,7 @@
 -- `msf::lines::put_spaced` meets its contract: after i turns the first i numbers stand in `out` from `at`. Assumes nothing.
-use Prim.Native.Nat.{◌+◌, ◌-◌, ◌*◌, ◌≤◌}
-use mathlib.Core.Path.{◌≡◌, refl}
+use mathlib.Core.Path.{refl}
 use native.Mathlib.Omega.{arith}
-use lib.ListN.{length}
-use Rattle.lists.specs.Writing.{Written}
-use Rattle.msf.specs.Listing.{spaced}
-use Rattle.msf.proofs.Words.{words, words_none, words_more}
+use Rattle.msf.proofs.Words.{words_none, words_more}
 use borrow.Author.Rules.{rules}
 use Rattle.msf.proofs.lines.put_spaced.Goals as goal
 

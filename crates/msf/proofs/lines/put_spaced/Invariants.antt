@@ -1,11 +1,10 @@
 -- `msf::lines::put_spaced` meets its contract: after i turns the first i numbers stand in `out` from `at`. Assumes nothing.
 use Prim.Native.Nat.{◌+◌, ◌-◌, ◌*◌, ◌≤◌}
-use mathlib.Core.Path.{◌≡◌, refl}
-use native.Mathlib.Omega.{arith}
+use mathlib.Core.Path.{◌≡◌}
 use lib.ListN.{length}
 use Rattle.lists.specs.Writing.{Written}
 use Rattle.msf.specs.Listing.{spaced}
-use Rattle.msf.proofs.Words.{words, words_none, words_more}
+use Rattle.msf.proofs.Words.{words}
 use Rattle.msf.proofs.lines.put_spaced.Given as goal
 
 abbrev pub invariant-loop-i : goal.invariant-loop-i

@@ -1,11 +1,9 @@
 -- `msf::text::put_bytes` meets its contract: after j turns the first j bytes stand in `out` from `at`. Assumes nothing.
-use Prim.Native.Nat.{◌+◌, ◌-◌, ◌≤◌}
 use mathlib.Core.Path.{◌≡◌, refl, ap, ◌∙◌}
 use native.Mathlib.Nat.{zero-add}
 use native.Mathlib.Omega.{arith}
 use lib.ListN.{length}
 use Rattle.lists.specs.Lists.{part}
-use Rattle.lists.specs.Writing.{Written}
 use Rattle.lists.proofs.Pieces.{part_all}
 use Rattle.lists.proofs.Writing.{copy_none, copy_more}
 use borrow.Author.Rules.{rules}

@@ -1,10 +1,9 @@
 -- `msf::text::put_float` meets its contract: only a NaN differs from itself; with k digits left to store, the others stand behind them. Assumes nothing.
-use Prim.Native.Nat.{◌-◌, ◌≤◌}
-use mathlib.Core.Path.{◌≡◌, refl}
+use Prim.Native.Nat.{◌-◌}
+use mathlib.Core.Path.{refl}
 use native.Mathlib.Omega.{arith}
-use lib.ListN.{length}
 use lib.Ieee.Compare.{differs_from_itself}
-use Rattle.msf.proofs.Digits.{Digits, digits_start, digits_step, digits_end, not_nan, float_digits, float_nan}
+use Rattle.msf.proofs.Digits.{digits_start, digits_step, digits_end, not_nan, float_digits, float_nan}
 use borrow.Author.Rules.{rules}
 use Rattle.msf.proofs.text.put_float.Goals as goal
 

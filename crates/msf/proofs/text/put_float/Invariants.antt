@@ -1,10 +1,8 @@
 -- `msf::text::put_float` meets its contract: only a NaN differs from itself; with k digits left to store, the others stand behind them. Assumes nothing.
-use Prim.Native.Nat.{◌-◌, ◌≤◌}
-use mathlib.Core.Path.{◌≡◌, refl}
-use native.Mathlib.Omega.{arith}
+use Prim.Native.Nat.{◌≤◌}
+use mathlib.Core.Path.{◌≡◌}
 use lib.ListN.{length}
-use lib.Ieee.Compare.{differs_from_itself}
-use Rattle.msf.proofs.Digits.{Digits, digits_start, digits_step, digits_end, not_nan, float_digits, float_nan}
+use Rattle.msf.proofs.Digits.{Digits}
 use Rattle.msf.proofs.text.put_float.Given as goal
 
 abbrev pub invariant-loop-k : goal.invariant-loop-k
