@@ -5,4 +5,4 @@ use Rattle.dump.specs.declared.Input.TheVariants.{Bytes, Failed}
 
 abbrev pub Within : Input → List ℕ → Type 0
 Within (Bytes n) file = n ≤ length file
-Within Failed file = Unit {0}
+Within (Failed error) file = Unit {0}
