@@ -15,7 +15,7 @@ fn main() {
     }
     println!("cargo:rerun-if-changed=build.rs");
     let tree = Path::new(&variable("CARGO_MANIFEST_DIR")).join("..");
-    let built = tree.join("target/staticlib");
+    let built = tree.join("crates/station/out");
     // while a file is missing cargo runs this for every build; in the tree an archive that is built later must be taken
     if tree.join("include/station.h").exists() || built.join(ARCHIVE).exists() {
         println!("cargo:rerun-if-changed={}", built.join(ARCHIVE).display());
