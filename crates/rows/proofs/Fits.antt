@@ -1,17 +1,30 @@
 -- What a test that all is there says, and the plain facts that make it hold. Assumes nothing.
-use Prim.Native.Nat.{ℕ, ◌+◌, ◌*◌, ◌≤◌, ◌<◌}
-use mathlib.Core.Path.{◌≡◌, refl, sym, ◌∙◌}
+use Prim.Native.Nat.{ℕ, ◌+◌, ◌-◌, ◌*◌, ◌≤◌, ◌<◌}
+use mathlib.Core.Path.{◌≡◌, refl, sym, ◌∙◌, subst}
 use mathlib.Core.Logic.{◌↔◌}
-use mathlib.Core.Bool.{Bool, true, false, ◌&&◌, cond, and-eq-true_iff}
+use mathlib.Core.Bool.{Bool, true, false, not, ◌&&◌, cond, and-eq-true_iff}
 use mathlib.Core.List.{List}
+use native.Mathlib.Nat.{lt_of_not-le, mul-le-mul}
+use native.Mathlib.Decide.{dec_le}
 use native.Mathlib.Omega.{arith}
 use lib.ListN.{length}
 use lib.Dec.{leb, ltb, eqb}
 use lib.Ieee.{Float}
-use borrow.Author.Tests.{leb-true, le-leb, eqb-true, eq-eqb, ltb-true, ltb-false}
+use borrow.Author.Tests.{not-false, leb-true, le-leb, lt-leb, eqb-true, eq-eqb, ltb-true, ltb-false}
+use Rattle.bits.specs.Reading.{readable}
 use Rattle.rows.specs.declared.Layout.{Layout}
 use Rattle.rows.specs.declared.Run.{Run}
 use Rattle.rows.specs.Inner.Placing.{fair, there, run_places, run_numbers, run_fits, copy_fits, row_index, rows_fit, bits_fit, corner_fits, NumbersThere}
+
+-- the test without a sum
+pub leb-sub : (from size len : ℕ) → from ≤ len → leb size (len - from) ≡ leb (from + size) len
+leb-sub from size len h = by_sum (dec_le (from + size) len)
+  where
+    by_sum : Dec (from + size ≤ len) → leb size (len - from) ≡ leb (from + size) len
+    by_sum (yes w) = le-leb size (len - from) (omega arith) ∙ sym (le-leb (from + size) len w)
+    by_sum (no w) =
+        let v = lt_of_not-le w in
+        lt-leb size (len - from) (omega arith) ∙ sym (lt-leb (from + size) len v)
 
 leb_iff : (a b : ℕ) → (leb a b ≡ true) ↔ (a ≤ b)
 leb_iff a b = (leb-true a b, le-leb a b)
@@ -39,6 +52,16 @@ module _ (L : Layout) where
       by_kind false e =
           let f = fair_bits e t in
           (f.0, f.1.0.1, f.1.1.1)
+
+  -- so no product is, by the answer r of a test
+  pub run_small : {r : Bool} (run : Run) → r ≡ fair L → not r ≡ false → run.points ≤ 16 → run.colours ≤ 4
+      → (2 * L.coord ≤ 64) × (8 + L.n ≤ 40) × (L.n * L.comp ≤ 1024) × (run.points * (2 * L.coord) ≤ 1024) × (run.colours * (L.n * L.comp) ≤ 4096) × (run.colours * (8 + L.n) ≤ 160)
+  run_small {r} run e t k c =
+      let f = fair_small (sym e ∙ not-false r t) in
+      let d : 2 * L.coord ≤ 64 = omega arith in
+      let g : 8 + L.n ≤ 40 = omega arith in
+      let m : L.n * L.comp ≤ 1024 = mul-le-mul f.0 f.2 in
+      (d, g, m, mul-le-mul k d, mul-le-mul c m, mul-le-mul c g)
 
   module _ (s : List ℕ) (vs : List Float) (p size : ℕ) where
     pub fits_standing : fair L ≡ true → there L s vs p size ≡ true → NumbersThere L s vs p size
@@ -131,6 +154,12 @@ module _ (n side at room : ℕ) where
           let all : at + (10 + n) ≤ room = rw q at h in
           rw (q, le-leb _ _ few, le-leb _ _ all)
 
+-- by the answer r of a test
+pub width_small : (w : ℕ) {r : Bool} → r ≡ readable w → not r ≡ false → w ≤ 32
+width_small w {r} e t =
+    let f : 1 ≤ w × w ≤ 32 = simp (and-eq-true_iff, leb_iff) at (sym e ∙ not-false r t) in
+    f.1
+
 module _ (L : Layout) (s : List ℕ) (p : ℕ) where
   pub bits_there : {r : Bool} → r ≡ bits_fit L s p → r ≡ true
       → (1 ≤ L.coord × L.coord ≤ 32) × ((1 ≤ L.comp × L.comp ≤ 32) × (length s ≤ 16777216 × p + (2 * L.coord + L.n * L.comp) ≤ 8 * length s))
@@ -142,8 +171,21 @@ module _ (L : Layout) (s : List ℕ) (p : ℕ) where
   unfolding bits_fit
   bits_fit_lem h = simp (and-eq-true_iff, leb_iff) h
 
--- where the rows fit and the numbers are there, all is there; r is the answer of a test
+-- where the rows fit, what is left to test is that the numbers are there; r is the answer of a test
 module _ (L : Layout) (s : List ℕ) (vs : List Float) (p side at room : ℕ) where
+  pub rows_decide : {r : Bool} → r ≡ rows_fit L.n side at room → r ≡ false → r ≡ corner_fits L s vs p side at room
+  rows_decide e t = rw (← e, t)
+
+  pub list_decides : {r : Bool} → r ≡ rows_fit L.n side at room → r ≡ true → L.listed ≡ true → leb (p + (2 + L.n)) (length vs) ≡ corner_fits L s vs p side at room
+  list_decides e t l =
+      subst (λ (b : Bool). leb (p + (2 + L.n)) (length vs) ≡ rows_fit L.n side at room && cond b (leb (p + (2 + L.n)) (length vs)) (bits_fit L s p))
+      (sym l) (rw (← e, t))
+
+  pub bits_decide : {r : Bool} → r ≡ rows_fit L.n side at room → r ≡ true → L.listed ≡ false → bits_fit L s p ≡ corner_fits L s vs p side at room
+  bits_decide e t l =
+      subst (λ (b : Bool). bits_fit L s p ≡ rows_fit L.n side at room && cond b (leb (p + (2 + L.n)) (length vs)) (bits_fit L s p))
+      (sym l) (rw (← e, t))
+
   pub all_decide : {r : Bool} → r ≡ rows_fit L.n side at room → r ≡ true → cond L.listed (leb (p + (2 + L.n)) (length vs)) (bits_fit L s p) ≡ true
       → r ≡ corner_fits L s vs p side at room
   all_decide e t h = rw (← e, t, h)

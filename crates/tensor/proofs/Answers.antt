@@ -1,8 +1,9 @@
 -- The answers of the public functions, for any way of turning. Assumes nothing.
-use Prim.Native.Nat.{ℕ, ◌+◌, ◌*◌, ◌≤◌, ◌<◌}
+use Prim.Native.Nat.{ℕ, ◌+◌, ◌*◌, ◌/◌, ◌≤◌, ◌<◌}
 use mathlib.Core.Path.{◌≡◌, sym, ap, ◌∙◌}
 use mathlib.Core.Bool.{Bool, true, false}
 use mathlib.Core.List.{List}
+use native.Mathlib.Nat.{mul-le-mul}
 use native.Mathlib.Omega.{arith}
 use borrow.Author.Tests.{lt-ltb, le-ltb, eq-eqb, ne_eqb}
 use lib.Dec.{eqb}
@@ -18,7 +19,7 @@ use Rattle.rules.specs.Patches.{Patch}
 use Rattle.rules.proofs.Meshes.{Numbered}
 use Rattle.tensor.specs.Turning.{Turning, tensor_patch, numbers_of}
 use Rattle.tensor.specs.Outcomes.{turned}
-use Rattle.tensor.proofs.Rows.{length_rows}
+use Rattle.tensor.proofs.Rows.{length-rows}
 
 -- the code's test of a remainder
 pub some_left : (rest : ℕ) → 0 < rest → eqb rest 0 ≡ false
@@ -26,6 +27,10 @@ some_left rest h = ne_eqb rest 0 (λ e. omega arith)
 
 pub none_left : (rest : ℕ) → rest ≤ 0 → eqb rest 0 ≡ true
 none_left rest h = eq-eqb rest 0 (omega arith)
+
+-- what no more patches than numbers need, at 32 components
+pub few_places : (count row : ℕ) → count ≤ most_numbers → row ≤ 192 → count * row ≤ most_numbers * 192
+few_places count row h g = mul-le-mul h g
 
 module _ {A B : Type 0} (T : Turning A B) (n size : ℕ) (whole : Bool) (ps : List (Patch (List A) (List A))) (l : List B) where
   pub many_components : most_components < n → Done (turned T n size whole ps (length l)) l (Refused Components) l
@@ -49,7 +54,7 @@ module _ {A B : Type 0} (T : Turning A B) (n size : ℕ) (whole : Bool) (ps : Li
         unfolding turned
         small_output m row r all e h =
             simp (le-ltb _ _ few, le-ltb _ _ short, is_whole)
-            (no_room_for (length ps) (flat (λ p. numbers_of (tensor_patch T p)) ps) row (length_rows T m ps all ∙ ap (λ (k : ℕ). length ps * k) (sym r)) e h)
+            (no_room_for (length ps) (flat (λ p. numbers_of (tensor_patch T p)) ps) row (length-rows T m ps all ∙ ap (λ (k : ℕ). length ps * k) (sym r)) e h)
 
         pub wrote_all : {count : ℕ} {o : List B} {p : ℕ} → count ≡ length ps → Written l o 0 (flat (λ p. numbers_of (tensor_patch T p)) ps) p
             → Done (turned T n size whole ps (length l)) l (Wrote count) o

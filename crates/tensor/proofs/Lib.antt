@@ -8,6 +8,7 @@ pub mod WholeFloats
 pub mod TakenApart
 pub mod Coordinates
 pub mod Agree
+pub mod Indices
 pub mod Placing
 pub mod Rows
 pub mod RawRows

@@ -24,7 +24,7 @@ use Rattle.tensor.specs.declared.raw.Coons.{Coons}
 use Rattle.tensor.specs.Turning.{raw, tensor_patch, numbers_of}
 use Rattle.tensor.specs.Outcomes.{whole_records}
 use Rattle.tensor.specs.Inner.Standing.{Raw, patch_in, Within, Takes, patches_of}
-use Rattle.tensor.proofs.Rows.{length-row, length_rows}
+use Rattle.tensor.proofs.Rows.{length-row, length-rows}
 use Rattle.tensor.proofs.Walk.{Followed, followed, Walk, walk_start, walk_end, walk_more, walk_goes}
 
 abbrev pub row_of : Raw → List ℤ
@@ -107,7 +107,7 @@ module _ {n : ℕ} {xs : List ℕ} {l o : List ℤ} {c : Coons} {at i : ℕ} (p 
         ∙ ap length (flat_append row_of p.done (q ∷ rest))
         ∙ length-append (flat row_of p.done) (row_of q ++ flat row_of rest)
         ∙ ap (λ (k : ℕ). length (flat row_of p.done) + k) (length-append (row_of q) (flat row_of rest)) in
-        let rows = length_rows raw n (patches_of n xs) all in
+        let rows = length-rows raw n (patches_of n xs) all in
         omega (arith, p.written.after)
 
     pub pass_next : {o' : List ℤ} {at' : ℕ} → Written o o' at (row_of (patch_in n xs c')) at' → Pass n xs l o' c' at' (c'.c33 + 2 * n)

@@ -94,7 +94,7 @@ module _ {A B : Type 0} (T : Turning A B) where
       simp (row_parts p, length-append, length-map) (omega arith)
 
   -- every row is as long
-  pub length_rows : (m : ℕ) (ps : List (Patch (List A) (List A))) → All (Numbered 12 4 m) ps
+  pub length-rows : (m : ℕ) (ps : List (Patch (List A) (List A))) → All (Numbered 12 4 m) ps
       → length (flat (λ p. numbers_of (tensor_patch T p)) ps) ≡ length ps * (32 + 4 * m)
-  length_rows m ps h =
+  length-rows m ps h =
       length_flat_all (λ (p : Patch (List A) (List A)). numbers_of (tensor_patch T p)) (32 + 4 * m) ps (all_map _ _ ps (length-row m) h)
