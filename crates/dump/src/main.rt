@@ -64,6 +64,12 @@ fn list<R: Read>(rt: &impl Print, reader: &mut R) -> io::Result<()> {
     io::writer(rt).write_all(&listing[0..length])
 }
 
+// Lists the file that the argument names.
+fn list_argument(rt: &HostRuntime, name: &str) -> io::Result<()> {
+    let mut file = File::open(rt, name)?;
+    list(rt, &mut file)
+}
+
 fn main(rt: HostRuntime) -> io::Result<()> {
     let mut words = env::args(&rt)?;
     let _program = words.next();
@@ -73,6 +79,5 @@ fn main(rt: HostRuntime) -> io::Result<()> {
     if words.next().is_some() {
         return eprintln!(rt; "usage: mesh-dump [FILE]");
     }
-    let mut file = File::open(&rt, name.as_str())?;
-    list(&rt, &mut file)
+    list_argument(&rt, name.as_str())
 }
