@@ -13,7 +13,8 @@ import re
 import sys
 
 # lemmas that are written as definitions give way to the function of their name; facts that are words of prose too are left to the hand
-OWN_WAY = {"last-three": "last_three_lem", "triangle-before": "triangle_before_lem", "few": "few", "bit": "bit"}
+OWN_WAY = {"last-three": "last_three_lem", "triangle-before": "triangle_before_lem", "few": "few", "bit": "bit",
+           "number-of-bits": "number_of_bits", "numbers-of-cells": "numbers_of_cells"}
 STD = {"length", "take", "drop", "append", "map", "replicate", "sum", "get_or", "set", "zero", "nil", "suc", "add", "sub", "mul", "pow", "div", "mod",
        "cons", "reverse", "min", "max", "eqb", "leb", "ltb", "fold", "flat_map"}
 DECLARED = re.compile(r"^(\s*)((?:pub |abbrev |unfoldable )*)([a-zA-Z][^\s:(){}.;,]*) : ")

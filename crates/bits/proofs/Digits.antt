@@ -32,8 +32,8 @@ number_bits zero x = sym (mod-one x)
 number_bits (suc w) x =
     ap₂ (λ (k r : ℕ). x / 2 ^ w % 2 * 2 ^ k + r) (length-bits w x) (number_bits w x) ∙ sym (mod-suc x w)
 
-pub number_of-bits : (w x : ℕ) → x < 2 ^ w → number (bits_of w x) ≡ x
-number_of-bits w x h = number_bits w x ∙ mod-eq_of_lt h
+pub number_of_bits : (w x : ℕ) → x < 2 ^ w → number (bits_of w x) ≡ x
+number_of_bits w x h = number_bits w x ∙ mod-eq_of_lt h
 
 -- w bits are a number below 2 ^ w
 pub number_below : (bs : List ℕ) → AllBelow 2 bs → number bs < 2 ^ length bs

@@ -11,7 +11,7 @@ use lib.Seq.{length-take-le, take_at, drop_at}
 use Rattle.lists.specs.Lists.{AllBelow}
 use Rattle.lists.proofs.Members.{all_append, all_take, all_drop, all_replicate}
 use Rattle.bits.specs.Bits.{bits_of, number, stream}
-use Rattle.bits.proofs.Digits.{length-bits, bits_of_number, number_of-bits}
+use Rattle.bits.proofs.Digits.{length-bits, bits_of_number, number_of_bits}
 use Rattle.bits.proofs.Streams.{length-stream}
 use Rattle.packing.specs.Packed.{byte_count, octets, bytes}
 
@@ -60,7 +60,7 @@ octets_after : (s : List ℕ) (k : ℕ) (bits : List ℕ) → AllBelow 256 s →
 unfolding octets stream
 octets_after [] k bits p = rw zero-add
 octets_after (b ∷ s) k bits p =
-    rw (suc-add, append_assoc, octets, take_at (bits_of 8 b) (stream s ++ bits) 8 (length-bits 8 b), drop_at (bits_of 8 b) (stream s ++ bits) 8 (length-bits 8 b), number_of-bits 8 b p.0, octets_after s k bits p.1)
+    rw (suc-add, append_assoc, octets, take_at (bits_of 8 b) (stream s ++ bits) 8 (length-bits 8 b), drop_at (bits_of 8 b) (stream s ++ bits) 8 (length-bits 8 b), number_of_bits 8 b p.0, octets_after s k bits p.1)
 
 pub bytes_after : (s bits : List ℕ) → AllBelow 256 s → bytes (stream s ++ bits) ≡ s ++ bytes bits
 unfolding bytes

@@ -11,7 +11,7 @@ use lib.ListN.{length, take, drop, replicate, length-append}
 use lib.Seq.{take_at, drop_at, drop-drop}
 use Rattle.lists.specs.Lists.{AllBelow}
 use Rattle.bits.specs.Bits.{bits_of, number}
-use Rattle.bits.proofs.Digits.{length-bits, number_of-bits}
+use Rattle.bits.proofs.Digits.{length-bits, number_of_bits}
 use Rattle.records.specs.declared.shape.Kind.{Kind}
 use Rattle.records.specs.declared.shape.Kind.TheVariants.{Four, Five, Six, Seven}
 use Rattle.records.specs.declared.shape.Shape.{Shape}
@@ -33,7 +33,7 @@ module _ {w x : ℕ} {o : Option (List ℕ)} {bits : List ℕ} (f : Field w x o 
   split = ap (λ (b : List ℕ). b ++ pad) f.is ∙ append_assoc (bits_of w x) f.rest pad
 
   read_first : number (take w (bits ++ pad)) ≡ x
-  read_first = rw (split, take_at (bits_of w x) (f.rest ++ pad) w (length-bits w x)) (number_of-bits w x f.fits)
+  read_first = rw (split, take_at (bits_of w x) (f.rest ++ pad) w (length-bits w x)) (number_of_bits w x f.fits)
 
   read_rest : drop w (bits ++ pad) ≡ f.rest ++ pad
   read_rest = rw split (drop_at (bits_of w x) (f.rest ++ pad) w (length-bits w x))

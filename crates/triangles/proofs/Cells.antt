@@ -301,5 +301,5 @@ module _ (total row rows : ℕ) (e : rows ≡ cond (ltb row 2) 0 (total / row)) 
     cell_count = rw all_rows (sym (lattice_count total row))
 
 -- two triangles of three rows are six rows
-pub numbers_of-cells : (rows row size : ℕ) → 2 * (rows - 1) * (row - 1) * (3 * size) ≡ (rows - 1) * (6 * size * (row - 1))
-numbers_of-cells rows row size = omega arith
+pub numbers_of_cells : (rows row size : ℕ) → 2 * (rows - 1) * (row - 1) * (3 * size) ≡ (rows - 1) * (6 * size * (row - 1))
+numbers_of_cells rows row size = omega arith

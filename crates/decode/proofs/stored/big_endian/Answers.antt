@@ -4,11 +4,6 @@ use Rattle.decode.specs.Stored.{big_endian}
 use Rattle.decode.proofs.BigEndian.{big_endian-more, no_bytes, byte_more, byte_fits, number_too_long, number_cut, number_there}
 use borrow.Author.Rules.{rules}
 use Rattle.decode.proofs.stored.big_endian.Goals as goal
-use Rattle.decode.proofs.stored.big_endian.Goals.{After-shared_slice_known-1}
-
-a_byte : (c : After-shared_slice_known-1) → let a = c.args in
-    get_or a.bytes.now (a.at + c.loop-i.i) 0 < 256
-a_byte c = let a = c.args in omega (arith, c.type_inv.bytes (a.at + c.loop-i.i))
 
 pub returns-then-k-gt8 : goal.returns-then-k-gt8
 returns-then-k-gt8 c = (number_too_long _ _ _ c.if-k-gt8.true, no_bytes _)
@@ -31,13 +26,16 @@ overflow_mul-number c =
 pub overflow_add-number-in-loop-i : goal.overflow_add-number-in-loop-i
 overflow_add-number-in-loop-i c =
     let l = c.loop-i in
-    record { fits = omega (arith, byte_fits l.i l.invariant.2 (a_byte (goal.at.overflow_add-number-in-loop-i c).After-shared_slice_known-1) (omega arith)) }
+    let a = c.args in
+    let a_byte : get_or a.bytes.now (a.at + l.i) 0 < 256 = omega (arith, c.type_inv.bytes (a.at + l.i)) in
+    record { fits = omega (arith, byte_fits l.i l.invariant.2 a_byte (omega arith)) }
 
 pub loop-i-preserved : goal.loop-i-preserved
 loop-i-preserved c =
     let l = c.loop-i in
     let a = c.args in
-    (search rules, rw (big_endian-more a.bytes.now a.at l.i, ← l.invariant.1), byte_more l.i l.invariant.2 (a_byte (goal.at.loop-i-preserved c).After-shared_slice_known-1))
+    let a_byte : get_or a.bytes.now (a.at + l.i) 0 < 256 = omega (arith, c.type_inv.bytes (a.at + l.i)) in
+    (search rules, rw (big_endian-more a.bytes.now a.at l.i, ← l.invariant.1), byte_more l.i l.invariant.2 a_byte)
 
 pub returns : goal.returns
 returns c =

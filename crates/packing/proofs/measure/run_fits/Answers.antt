@@ -1,4 +1,4 @@
--- `packing::measure::run_fits_lem` meets its contract: the or of the numbers passed fits exactly when each does. Assumes nothing.
+-- `packing::measure::run_fits` meets its contract: the or of the numbers passed fits exactly when each does. Assumes nothing.
 use native.Mathlib.Omega.{arith}
 use Rattle.packing.proofs.Runs.{or_none, or_more}
 use Rattle.packing.proofs.measure.run_fits.Goals as goal

@@ -1,4 +1,4 @@
--- `packing::measure::run_fits_lem` meets its contract: the or of the numbers passed fits exactly when each does. Assumes nothing.
+-- `packing::measure::run_fits` meets its contract: the or of the numbers passed fits exactly when each does. Assumes nothing.
 use Prim.Native.Nat.{◌-◌, ◌^◌, ◌≤◌}
 use mathlib.Core.Path.{◌≡◌}
 use lib.Dec.{ltb}

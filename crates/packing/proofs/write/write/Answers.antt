@@ -1,7 +1,10 @@
 -- `packing::write::write` meets its contract: the refusals in their order, and then `pack`.
 -- Assumes nothing.
+use Prim.Native.Nat.{◌≤◌}
 use mathlib.Core.Path.{sym, ◌∙◌}
+use native.Mathlib.Omega.{arith}
 use borrow.Author.Tests.{lt-ltb, le-ltb}
+use Rattle.answers.specs.Limits.{most_components}
 use Rattle.answers.proofs.Outcomes.{was_refused}
 use Rattle.packing.specs.Writer.{raw_write}
 use Rattle.records.specs.Inner.Walk.{Readable}
@@ -25,7 +28,9 @@ returns-then-n-gt-MOST_COMPONENTS c = rw (← c.widths_are_readable.ensures, c.i
 
 pub returns-then-numbers-gt-MOST_NUMBERS : goal.returns-then-numbers-gt-MOST_NUMBERS
 unfolding raw_write
-returns-then-numbers-gt-MOST_NUMBERS c = rw (← c.widths_are_readable.ensures, c.if-not-widths_are_readable.false, le-ltb _ _ c.if-n-gt-MOST_COMPONENTS.false, lt-ltb _ _ c.if-numbers-gt-MOST_NUMBERS.true) was_refused
+returns-then-numbers-gt-MOST_NUMBERS c =
+    let few : c.args.n ≤ most_components = omega arith in
+    rw (← c.widths_are_readable.ensures, c.if-not-widths_are_readable.false, le-ltb _ _ few, lt-ltb _ _ c.if-numbers-gt-MOST_NUMBERS.true) was_refused
 
 pub is_thin-requires : goal.is_thin-requires
 is_thin-requires c = readable (goal.at.is_thin-requires c).Else-n-gt-MOST_COMPONENTS

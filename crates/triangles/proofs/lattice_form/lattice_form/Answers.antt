@@ -8,7 +8,7 @@ use Rattle.answers.proofs.Outcomes.{all_written}
 use Rattle.rules.specs.Lattice.{lattice}
 use Rattle.triangles.proofs.Rows.{length_in, numbers_small}
 use Rattle.triangles.proofs.Ends.{no_room_for_triangles, triangles_written}
-use Rattle.triangles.proofs.Cells.{no_cells, long_rows, all_rows, rows_inside, few_cells, cell_count, numbers_of-cells, lattice_written}
+use Rattle.triangles.proofs.Cells.{no_cells, long_rows, all_rows, rows_inside, few_cells, cell_count, numbers_of_cells, lattice_written}
 use Rattle.triangles.proofs.lattice_form.lattice_form.Goals as goal
 
 pub returns-then-rows-lt2 : goal.returns-then-rows-lt2
@@ -37,7 +37,7 @@ write_lattice-requires c =
       c.requires,
       long_rows a.vertices.total a.row rows c.lattice_rows-rows.ensures c.if-rows-lt2.false,
       rows_inside a.vertices.total a.row rows c.lattice_rows-rows.ensures c.if-rows-lt2.false,
-      rw (← (numbers_of-cells rows a.row (a.vertices.layout.n + 10))) (omega arith),
+      rw (← (numbers_of_cells rows a.row (a.vertices.layout.n + 10))) (omega arith),
     )
 
 pub returns : goal.returns
