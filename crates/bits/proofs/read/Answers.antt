@@ -9,8 +9,7 @@ use Rattle.bits.proofs.read.Goals as goal
 
 pub returns-then-data-le2305843009213693951 : goal.returns-then-data-le2305843009213693951
 returns-then-data-le2305843009213693951 c =
-    let b = c in
-    let a = b.args in
-    let e : 8 * b.byte_of-place.result.0 + a.at.0 % 8 ≡ a.at.0 = omega arith in
+    let a = c.args in
+    let e : 8 * c.byte_of-place.result.0 + a.at.0 % 8 ≡ a.at.0 = omega arith in
     rw (c.window-number.ensures, ← gathers_window (a.at.0 % 8) a.n c.eight_bytes.ensures (omega arith) (omega arith), e)
     (answer_number a.data.now a.at.0 a.n (omega arith) (omega arith) (omega arith) (omega arith))

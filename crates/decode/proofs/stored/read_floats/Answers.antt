@@ -22,13 +22,12 @@ loop-i-init c = (omega arith, refl, written_start _ _ _ (omega arith))
 pub loop-i-preserved : goal.loop-i-preserved
 unfolding floats_at
 loop-i-preserved c =
-    let n = c in
-    let l = n.loop-i in
-    let a = n.args in (
+    let l = c.loop-i in
+    let a = c.args in (
       omega arith,
       simp length-set l.invariant.1,
       written_store l.i _ l.invariant.2 (omega arith)
-          (c.float_of.ensures ∙ ap (of_bits binary64) (n.big_endian.ensures.0 ∙ number_there a.bytes.now (a.at + 8 * l.i) 8 (omega arith) (omega arith))),
+          (c.float_of.ensures ∙ ap (of_bits binary64) (c.big_endian.ensures.0 ∙ number_there a.bytes.now (a.at + 8 * l.i) 8 (omega arith) (omega arith))),
     )
 
 pub returns : goal.returns

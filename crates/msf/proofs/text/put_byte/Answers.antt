@@ -4,4 +4,4 @@ use Rattle.lists.proofs.Writing.{written_one}
 use Rattle.msf.proofs.text.put_byte.Goals as goal
 
 pub returns-clause-written : goal.returns-clause-written
-returns-clause-written c = (written_one _ _ _ (omega arith))
+returns-clause-written c = written_one _ _ _ (omega arith)

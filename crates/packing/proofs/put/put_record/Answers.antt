@@ -16,14 +16,15 @@ fit s = fits_parts s.args.mesh s.args.coords s.args.comps s.args.numbers.now s.a
 pub put_run-b-requires-clause-count_bound : goal.put_run-b-requires-clause-count_bound
 put_run-b-requires-clause-count_bound c =
     let a = c.args in
-    let p = c.put-a.ensures in ((p.few, omega (arith, c.requires.count_bound.1, put_place p, put_length p, length-bits a.mesh.first (get_or a.numbers.now a.i 0))))
+    let p = c.put-a.ensures in
+    (p.few, omega (arith, c.requires.count_bound.1, put_place p, put_length p, length-bits a.mesh.first (get_or a.numbers.now a.i 0)))
 
 pub put_run-requires-clause-count_bound : goal.put_run-requires-clause-count_bound
 put_run-requires-clause-count_bound c =
     let s = (goal.at.put_run-requires-clause-count_bound c).Start in
     let a = s.args in
     let p = c.put-a.ensures in
-    let q = c.put_run-b.ensures in ((
+    let q = c.put_run-b.ensures in (
       q.few,
       omega (
         arith,
@@ -35,7 +36,7 @@ put_run-requires-clause-count_bound c =
         length-bits a.mesh.first (get_or a.numbers.now a.i 0),
         length-run_bits a.mesh.coord a.numbers.now (a.i + 1) a.coords (omega (arith, (fit s).there)),
       ),
-    ))
+    )
 
 pub returns : goal.returns
 returns c = put_then c.put-a.ensures (put_then c.put_run-b.ensures c.put_run.ensures)

@@ -57,11 +57,7 @@ returns-in_default c =
 
 pub put_record-waiting-requires-clause-readable : goal.put_record-waiting-requires-clause-readable
 put_record-waiting-requires-clause-readable c =
-    let k = (goal.at.put_record-waiting-requires-clause-readable c).In-Record in
-    let a = k.args in
-    let l = k.loop-i in
-    let p = l.invariant.1.2 in
-    let f = fit k in ((k.requires.0, f.0))
+    (c.requires.0, (fit (goal.at.put_record-waiting-requires-clause-readable c).In-Record).0)
 
 pub put_record-waiting-requires-clause-count_bound : goal.put_record-waiting-requires-clause-count_bound
 put_record-waiting-requires-clause-count_bound c =
@@ -69,7 +65,7 @@ put_record-waiting-requires-clause-count_bound c =
     let a = k.args in
     let l = k.loop-i in
     let p = l.invariant.1.2 in
-    let f = fit k in ((p.few, omega (arith, f.1, put_place p, put_length p, length_record a.mesh (coords k) (comps k) a.numbers.now l.i (there k))))
+    (p.few, omega (arith, (fit k).1, put_place p, put_length p, length_record a.mesh (coords k) (comps k) a.numbers.now l.i (there k)))
 
 pub loop-i-preserved : goal.loop-i-preserved
 loop-i-preserved c =

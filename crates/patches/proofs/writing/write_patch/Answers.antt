@@ -21,7 +21,6 @@ returns-then-flag-eq0 c =
     let a = c.args in
     let table = table_of a.sides in
     let ranges = held_ranges a.ranges.now in
-    let h = c.requires in
     rw c.if-flag-eq0.true (rw (row_first table a.records a.data.now a.values.now ranges a.out.now (a.at - patch_size a.records) a.place.0) at c.write_first.ensures.written)
 
 pub write_next-requires : goal.write_next-requires

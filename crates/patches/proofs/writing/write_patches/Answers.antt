@@ -54,5 +54,4 @@ loop-flag-preserved c =
     let a = c.args in
     let r = held_ranges a.ranges.now in
     let v = found_whole _ _ _ _ _ c.in-Record.flag c.in-Record.next e in
-    let k = record_moves a.records c.in-Record.flag in
     (v.within, walk_step h.1 r i.1 c.in-Record.flag c.in-Record.next e c.write_patch-at.ensures)

@@ -26,4 +26,4 @@ loop-k-preserved c =
     c.in-Number.ensures
 
 pub returns-clause-result_value : goal.returns-clause-result_value
-returns-clause-result_value c = let e = upto_end c.loop-k.invariant c.loop-k-test.false in (rw sum-replicate at e.0)
+returns-clause-result_value c = let e = upto_end c.loop-k.invariant c.loop-k-test.false in rw sum-replicate at e.0

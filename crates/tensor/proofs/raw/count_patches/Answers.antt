@@ -38,11 +38,13 @@ loop-i-init c = (omega arith, omega arith, (none, ([], (walk_start _ _, refl))))
 pub returns-in_default-clause-value : goal.returns-in_default-clause-value
 returns-in_default-clause-value c =
     let w = c.loop-i.invariant.2.1.1.0 in
-    (count_broken c.args.n c.args.numbers.now ((walk_ends w c.loop-i-test.true (sym c.shape_of-shape.ensures ∙ c.in_default.is))))
+    count_broken c.args.n c.args.numbers.now (walk_ends w c.loop-i-test.true (sym c.shape_of-shape.ensures ∙ c.in_default.is))
 
 pub returns-then-numbers-i-clause-value : goal.returns-then-numbers-i-clause-value
 returns-then-numbers-i-clause-value c =
-    (count_broken c.args.n c.args.numbers.now ((walk_cut c.loop-i.invariant.2.1.1.0 c.loop-i-test.true (coords (goal.at.returns-then-numbers-i-clause-value c).In-Follows) (colours (goal.at.returns-then-numbers-i-clause-value c).In-Follows) (follows (goal.at.returns-then-numbers-i-clause-value c).In-Follows) (omega (arith, c.if-numbers-i.true)))))
+    let k = (goal.at.returns-then-numbers-i-clause-value c).In-Follows in
+    count_broken c.args.n c.args.numbers.now
+    (walk_cut c.loop-i.invariant.2.1.1.0 c.loop-i-test.true (coords k) (colours k) (follows k) (omega (arith, c.if-numbers-i.true)))
 
 pub loop-i-preserved : goal.loop-i-preserved
 loop-i-preserved c =

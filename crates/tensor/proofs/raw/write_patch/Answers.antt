@@ -13,5 +13,6 @@ returns-clause-written c =
     let w1 = c.write_times-p.ensures in
     let second = c.copy.ensures in
     let first = c.copy-own.ensures in
-    let a = c.args in (raw_written a.n a.numbers.now a.patch _ (written_whole (written_then first.written second.written) (omega (arith, first.value, second.value)))
-    w1.written c.write_along.ensures c.write_along-2.ensures w2.written w3.written w4.written (omega (arith, c.requires.2, w1.value)))
+    let a = c.args in
+    raw_written a.n a.numbers.now a.patch _ (written_whole (written_then first.written second.written) (omega (arith, first.value, second.value)))
+    w1.written c.write_along.ensures c.write_along-2.ensures w2.written w3.written w4.written (omega (arith, c.requires.2, w1.value))

@@ -5,4 +5,4 @@ use Rattle.triangles.proofs.free_form.write_three.Goals as goal
 
 pub returns-clause-written : goal.returns-clause-written
 unfolding corners
-returns-clause-written c = (written_then c.write_vertex-p.ensures.written (written_then c.write_vertex-q.ensures.written c.write_vertex.ensures.written))
+returns-clause-written c = written_then c.write_vertex-p.ensures.written (written_then c.write_vertex-q.ensures.written c.write_vertex.ensures.written)

@@ -23,4 +23,5 @@ returns-clause-written c =
     let w₃ = c.write_row-s.ensures in
     let w₄ = c.copy_row-t.ensures in
     let w₅ = c.write_vertex-u.ensures in
-    let w₆ = c.copy_row.ensures in (cell_written _ _ (length_in c.args.vertices _ _ _) c.args.cell.row c.args.cell.i w₁.written w₂.written w₃.written w₄.written w₅.written w₆.written)
+    let w₆ = c.copy_row.ensures in
+    cell_written _ _ (length_in c.args.vertices _ _ _) c.args.cell.row c.args.cell.i w₁.written w₂.written w₃.written w₄.written w₅.written w₆.written
