@@ -8,14 +8,8 @@ use Rattle.records.proofs.raw.write_run.Goals as goal
 pub loop-k-init : goal.loop-k-init
 loop-k-init c = let z = c.requires in upto_start _ _ (run_there z.0) z.1
 
-pub returns-in_default-clause-result_value : goal.returns-in_default-clause-result_value
-returns-in_default-clause-result_value c =
-    absurd
-    (upto_goes_on c.loop-k.invariant c.loop-k-test.true (sym (get_or-replicate _ _ _ 0 c.loop-k-test.true))
-    c.in_default.ensures)
-
-pub returns-in_default-clause-written : goal.returns-in_default-clause-written
-returns-in_default-clause-written c =
+pub returns-in_default : goal.returns-in_default
+returns-in_default c =
     absurd
     (upto_goes_on c.loop-k.invariant c.loop-k-test.true (sym (get_or-replicate _ _ _ 0 c.loop-k-test.true))
     c.in_default.ensures)

@@ -10,14 +10,8 @@ loop-k-init c =
     let z = c.requires in
     upto_start _ _ (record_there _ c.args.coords _ z.0 z.1 z.2) z.3
 
-pub returns-in_default-clause-result_value : goal.returns-in_default-clause-result_value
-returns-in_default-clause-result_value c =
-    absurd
-    (upto_goes_on c.loop-k.invariant c.loop-k-test.true c.width_at.ensures
-    c.in_default.ensures)
-
-pub returns-in_default-clause-written : goal.returns-in_default-clause-written
-returns-in_default-clause-written c =
+pub returns-in_default : goal.returns-in_default
+returns-in_default c =
     absurd
     (upto_goes_on c.loop-k.invariant c.loop-k-test.true c.width_at.ensures
     c.in_default.ensures)

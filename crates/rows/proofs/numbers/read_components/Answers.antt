@@ -15,24 +15,13 @@ use Rattle.rows.proofs.numbers.read_components.Goals as goal
 pub loop-j-init : goal.loop-j-init
 loop-j-init c = (search rules, search rules, refl, rw add-zero (written_start _ _ _ (omega arith)))
 
-pub returns-in_default-clause-value : goal.returns-in_default-clause-value
-returns-in_default-clause-value c =
+pub returns-in_default : goal.returns-in_default
+returns-in_default c =
     let h = mul-le-mul_right c.args.comp c.loop-j-test.true in
     absurd (no_end _ _ _ (omega arith) c.in_default.ensures (omega arith) (omega arith) (omega arith) refl)
 
-pub returns-in_default-clause-written : goal.returns-in_default-clause-written
-returns-in_default-clause-written c =
-    let h = mul-le-mul_right c.args.comp c.loop-j-test.true in
-    absurd (no_end _ _ _ (omega arith) c.in_default.ensures (omega arith) (omega arith) (omega arith) refl)
-
-pub returns-in_default-read-clause-value : goal.returns-in_default-read-clause-value
-returns-in_default-read-clause-value c =
-    let h = mul-le-mul_right c.args.comp c.loop-j-test.true in
-    let g = got _ _ _ (omega arith) c.in-Number.ensures refl in
-    absurd (no_end _ _ _ (omega arith) c.in_default-read.ensures (omega arith) (omega arith) (omega (arith, g.next)) refl)
-
-pub returns-in_default-read-clause-written : goal.returns-in_default-read-clause-written
-returns-in_default-read-clause-written c =
+pub returns-in_default-read : goal.returns-in_default-read
+returns-in_default-read c =
     let h = mul-le-mul_right c.args.comp c.loop-j-test.true in
     let g = got _ _ _ (omega arith) c.in-Number.ensures refl in
     absurd (no_end _ _ _ (omega arith) c.in_default-read.ensures (omega arith) (omega arith) (omega (arith, g.next)) refl)
@@ -62,14 +51,8 @@ returns-then-j-n-clause-written c =
     let e : l.j ≡ c.args.n = omega arith in
     rw e at l.invariant.3
 
-pub returns-in_default-read-2-clause-value : goal.returns-in_default-read-2-clause-value
-returns-in_default-read-2-clause-value c =
-    let left : c.loop-j.j + 1 ≤ c.args.n = omega arith in
-    let h = mul-le-mul_right c.args.comp left in
-    absurd (no_end _ _ _ (omega arith) c.in_default-read-2.ensures (omega arith) (omega arith) (omega arith) refl)
-
-pub returns-in_default-read-2-clause-written : goal.returns-in_default-read-2-clause-written
-returns-in_default-read-2-clause-written c =
+pub returns-in_default-read-2 : goal.returns-in_default-read-2
+returns-in_default-read-2 c =
     let left : c.loop-j.j + 1 ≤ c.args.n = omega arith in
     let h = mul-le-mul_right c.args.comp left in
     absurd (no_end _ _ _ (omega arith) c.in_default-read-2.ensures (omega arith) (omega arith) (omega arith) refl)

@@ -5,21 +5,12 @@ use Rattle.rows.specs.Inner.Layouts.{held_ranges}
 use Rattle.rows.proofs.Sources.{got, no_end, point_read}
 use Rattle.rows.proofs.numbers.read_point.Goals as goal
 
-pub returns-in_default-clause-value : goal.returns-in_default-clause-value
-returns-in_default-clause-value c =
+pub returns-in_default : goal.returns-in_default
+returns-in_default c =
     absurd (no_end _ _ _ (omega arith) c.in_default.ensures (omega arith) (omega arith) (omega arith) refl)
 
-pub returns-in_default-clause-written : goal.returns-in_default-clause-written
-returns-in_default-clause-written c =
-    absurd (no_end _ _ _ (omega arith) c.in_default.ensures (omega arith) (omega arith) (omega arith) refl)
-
-pub returns-in_default-read-clause-value : goal.returns-in_default-read-clause-value
-returns-in_default-read-clause-value c =
-    let gx = got _ _ _ (omega arith) c.in-Number.ensures refl in
-    absurd (no_end _ _ _ (omega arith) c.in_default-read.ensures (omega arith) (omega arith) (omega arith) refl)
-
-pub returns-in_default-read-clause-written : goal.returns-in_default-read-clause-written
-returns-in_default-read-clause-written c =
+pub returns-in_default-read : goal.returns-in_default-read
+returns-in_default-read c =
     let gx = got _ _ _ (omega arith) c.in-Number.ensures refl in
     absurd (no_end _ _ _ (omega arith) c.in_default-read.ensures (omega arith) (omega arith) (omega arith) refl)
 
