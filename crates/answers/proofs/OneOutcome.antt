@@ -6,10 +6,9 @@ use lib.ListN.{length, get_or, drop}
 use native.Mathlib.Omega.{arith}
 use Rattle.answers.specs.declared.Refusal.{Refusal}
 use Rattle.answers.specs.declared.Refusal.TheVariants.{Layout, Components, Length, Room, Record, Thin, File}
-use Rattle.answers.specs.declared.Answer.{Answer}
-use Rattle.answers.specs.declared.Answer.TheVariants.{Wrote, Refused}
+use Rattle.std.specs.Prelude.{Ok, Err}
 use Rattle.answers.specs.declared.Told.{Told}
-use Rattle.answers.specs.Outcome.{number_of, needed_by, told, Outcome, refused, wrote, Tells, Done}
+use Rattle.answers.specs.Outcome.{number_of, needed_by, told, Answer, Outcome, refused, wrote, Tells, Done}
 
 -- the refusal that its number, and what it needs, stand for
 refusal_of : ℕ → ℕ → Refusal
@@ -41,10 +40,10 @@ one_refusal r r' e f = sym (back r) ∙ ap₂ refusal_of e f ∙ back r'
 
 -- no two answers share their numbers
 pub one_answer : (a a' : Answer) → told a ≡ told a' → a ≡ a'
-one_answer (Wrote n) (Wrote m) e = ap Wrote (ap (λ (t : Told). t.count) e)
-one_answer (Wrote n) (Refused r) e = absurd (not_zero r (sym (ap (λ (t : Told). t.refused) e)))
-one_answer (Refused r) (Wrote n) e = absurd (not_zero r (ap (λ (t : Told). t.refused) e))
-one_answer (Refused r) (Refused r') e = ap Refused (one_refusal r r' (ap (λ (t : Told). t.refused) e) (ap (λ (t : Told). t.count) e))
+one_answer (Ok n) (Ok m) e = ap Ok (ap (λ (t : Told). t.count) e)
+one_answer (Ok n) (Err r) e = absurd (not_zero r (sym (ap (λ (t : Told). t.refused) e)))
+one_answer (Err r) (Ok n) e = absurd (not_zero r (ap (λ (t : Told). t.refused) e))
+one_answer (Err r) (Err r') e = ap Err (one_refusal r r' (ap (λ (t : Told). t.refused) e) (ap (λ (t : Told). t.count) e))
 
 -- of an outcome there is one pair of numbers, one answer, and one content
 pub one_told : {A : Type 0} (o : Outcome A) (entry : List A) (t t' : Told) (m m' : List A) → Tells o entry t m → Tells o entry t' m' → (t ≡ t') × (m ≡ m')

@@ -1,9 +1,7 @@
 -- What a call answers, by its numbers, and what a call that writes into a lent output comes to: document 01, "Refusal numbers".
-use Rattle.std.specs.Prelude.{ℕ, ◌≡◌, Bool, cond, List, ◌++◌, length, drop, ltb}
+use Rattle.std.specs.Prelude.{ℕ, ◌≡◌, Bool, cond, List, ◌++◌, length, drop, ltb, Result, Ok, Err}
 use Rattle.answers.specs.declared.Refusal.{Refusal}
 use Rattle.answers.specs.declared.Refusal.TheVariants.{Layout, Components, Length, Room, Record, Thin, File}
-use Rattle.answers.specs.declared.Answer.{Answer}
-use Rattle.answers.specs.declared.Answer.TheVariants.{Wrote, Refused}
 use Rattle.answers.specs.declared.Told.{Told}
 
 -- the refusal table
@@ -26,10 +24,14 @@ needed_by Record = 0
 needed_by Thin = 0
 needed_by File = 0
 
+-- how much a call wrote, or its refusal
+abbrev pub Answer : Type 0
+Answer = Result ℕ Refusal
+
 -- an accepted call answers how much it wrote, a refusal its number
 abbrev pub told : Answer → Told
-told (Wrote n) = record { refused = 0; count = n }
-told (Refused r) = record { refused = number_of r; count = needed_by r }
+told (Ok n) = record { refused = 0; count = n }
+told (Err r) = record { refused = number_of r; count = needed_by r }
 
 -- a refusal; or so many things, which are these elements
 pub data Outcome (A : Type 0) : Type 0 where
@@ -47,8 +49,8 @@ module _ {A : Type 0} where
 
   -- the one answer, by its numbers
   abbrev pub tells : Outcome A → Told
-  tells (refused r) = told (Refused r)
-  tells (wrote count xs) = told (Wrote count)
+  tells (refused r) = told (Err r)
+  tells (wrote count xs) = told (Ok count)
 
   -- the one content of the lent output: unchanged by a refusal; else the elements, and after them what was there
   abbrev pub leaves : Outcome A → List A → List A

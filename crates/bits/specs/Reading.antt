@@ -1,7 +1,6 @@
 -- What a read of bits answers: document 01, "Bits".
-use Rattle.std.specs.Prelude.{ℕ, ◌+◌, ◌*◌, ◌/◌, ◌^◌, List, Bool, ◌&&◌, cond, length, eqb, leb, ltb}
-use Rattle.bits.specs.declared.BitRead.{BitRead}
-use Rattle.bits.specs.declared.BitRead.TheVariants.{Number, End}
+use Rattle.std.specs.Prelude.{ℕ, ◌+◌, ◌*◌, ◌/◌, ◌^◌, List, Bool, ◌&&◌, cond, length, eqb, leb, ltb, Option, Some, None}
+use Rattle.bits.specs.declared.BitPos.{BitPos}
 use Rattle.bits.specs.Bits.{field_at}
 
 -- the widths that a layout may have: document 01, LAYOUT
@@ -13,10 +12,10 @@ abbrev pub exist : List ℕ → ℕ → ℕ → Bool
 exist s p n = leb (p + n) (8 * length s) && ltb (p + n) (2 ^ 64)
 
 -- A read of 0 bits gives 0; of 1 to 32 bits gives the number if all bits exist; else the end. With a number comes the place after it.
-unfoldable pub read_at : List ℕ → ℕ → ℕ → BitRead
+unfoldable pub read_at : List ℕ → ℕ → ℕ → Option (ℕ × BitPos)
 read_at s p n =
-    cond (eqb n 0) (Number 0 (record { 0 = p }))
-    (cond (leb n 32 && exist s p n) (Number (field_at s p n) (record { 0 = p + n })) End)
+    cond (eqb n 0) (Some (0, record { 0 = p }))
+    (cond (leb n 32 && exist s p n) (Some (field_at s p n, record { 0 = p + n })) None)
 
 -- the place divided by 8, rounded down, reaches the byte count
 abbrev pub exhausted_at : List ℕ → ℕ → Bool

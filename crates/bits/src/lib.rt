@@ -15,13 +15,6 @@ pub struct BitPos(pub usize);
 #[derive(Clone, Copy)]
 pub struct BytePlace(pub usize);
 
-// What a read finds: the number and the place after it, or the end.
-#[derive(Clone, Copy)]
-pub enum BitRead {
-    Number(u32, BitPos),
-    End,
-}
-
 // Whether numbers of so many bits can be read.
 pub fn width_is_readable(bits: usize) -> bool
     ensures { result ≡ readable bits }
@@ -115,37 +108,37 @@ fn field(data: &[u8], offset: usize, n: usize) -> u32
 
 // Reads n bits at a place, as `read` does, for a number that is read now and then. It hands on a part of the slice and never the slice itself, so
 // that a caller can keep the slice in registers.
-pub fn read_seldom(data: &[u8], at: BitPos, n: usize) -> BitRead
+pub fn read_seldom(data: &[u8], at: BitPos, n: usize) -> Option<(u32, BitPos)>
     ensures { result ≡ read_at «data».now at.0 n }
 {
     if n == 0 {
-        return BitRead::Number(0, at);
+        return Some((0, at));
     }
     if n > 32 {
-        return BitRead::End;
+        return None;
     }
     let p = at.0;
     if p > 0xffff_ffff_ffff_ffff - n {
-        return BitRead::End;
+        return None;
     }
     let end = p + n;
     let place = byte_of(at);
     let byte = place.0;
     let offset = p % 8;
     if data.len() < byte {
-        return BitRead::End;
+        return None;
     }
     if data.len() - byte < (offset + n + 7) / 8 {
-        return BitRead::End; // not all bits exist
+        return None; // not all bits exist
     }
     let rest = &data[byte..];
-    BitRead::Number(field(rest, offset, n), BitPos(end))
+    Some((field(rest, offset, n), BitPos(end)))
 }
 
 // Reads n bits at a place: the number and the place after it, or the end. A read of 0 bits gives 0. All but the last bytes are read eight at
 // once, which is little enough for a compiler to put into a loop. The last ones go by `read_seldom`, which it must leave out of there:
 // docs/DECISIONS.md, "The bit read".
-pub fn read(data: &[u8], at: BitPos, n: usize) -> BitRead
+pub fn read(data: &[u8], at: BitPos, n: usize) -> Option<(u32, BitPos)>
     ensures { result ≡ read_at «data».now at.0 n }
 {
     let p = at.0;
@@ -157,7 +150,7 @@ pub fn read(data: &[u8], at: BitPos, n: usize) -> BitRead
                 if data.len() <= 0x1fff_ffff_ffff_ffff { // a usize counts its bits
                     let number = window(eight_bytes(data, place), p % 8, n);
                     let end = p + n;
-                    return BitRead::Number(number, BitPos(end));
+                    return Some((number, BitPos(end)));
                 }
             }
         }
