@@ -8,14 +8,14 @@ use lib.ListN.{length, length-append}
 use lib.Ieee.{Float}
 use Rattle.lists.proofs.Pieces.{length-joined}
 use Rattle.colour.specs.declared.DeviceColor.{DeviceColor}
-use Rattle.colour.specs.declared.Inks.{Inks}
-use Rattle.colour.specs.declared.Inks.TheVariants.{None, Cmyk}
+use Rattle.std.specs.Prelude.{Option, Some, None}
+use Rattle.colour.specs.declared.Cmyk.{Cmyk}
 use Rattle.colour.specs.Colour.{ink_numbers, colour_numbers, colour_of, colour_row}
 use Rattle.colour.specs.Inner.Places.{Numbers, point_at, components_at, vertex_at, points_at, colours_at}
 
-five : (i : Inks) → length (ink_numbers i) ≡ 5
+five : (i : Option Cmyk) → length (ink_numbers i) ≡ 5
 five None = refl
-five (Cmyk c m y k) = refl
+five (Some inks) = refl
 
 pub length-colour : (s : DeviceColor) → length (colour_numbers s) ≡ 8
 length-colour s = omega (arith, five s.inks)

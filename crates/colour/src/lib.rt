@@ -5,35 +5,31 @@ ghost use Rattle.std.specs.Prelude.{◌≡◌};
 ghost use Rattle.colour.specs.Light.{clamp_of, lesser_of, light_of};
 ghost use Rattle.colour.specs.Colour.{gray_of, rgb_of, cmyk_of, colour_of};
 
-// The inks of a colour: none, or four.
-#[derive(Clone, Copy)]
-pub enum Inks {
-    None,
-    Cmyk(f64, f64, f64, f64),
+// The four inks of a colour.
+#[derive(Clone, Copy, Debug, PartialEq)]
+pub struct Cmyk {
+    pub c: f64,
+    pub m: f64,
+    pub y: f64,
+    pub k: f64,
 }
 
-#[derive(Clone, Copy)]
+#[derive(Clone, Copy, Debug, PartialEq)]
 pub struct DeviceColor {
     pub r: f64,
     pub g: f64,
     pub b: f64,
-    pub inks: Inks,
+    pub inks: Option<Cmyk>,
 }
 
 // x brought into 0..1. A NaN and -0.0 stay as they are.
 pub fn clamp01(x: f64) -> f64
     ensures { result ≡ clamp_of x }
 {
-    if x < 0.0 {
-        return 0.0;
-    }
-    if x > 1.0 {
-        return 1.0;
-    }
-    x
+    x.clamp(0.0, 1.0)
 }
 
-// The lesser of x and 1, and 1 for a NaN.
+// The lesser of x and 1, and 1 for a NaN. By hand, since std's `min` leaves open which of two equal numbers it answers.
 fn lesser(x: f64) -> f64
     ensures { result ≡ lesser_of x }
 {
@@ -51,12 +47,7 @@ impl DeviceColor {
     fn from_gray(gray: f64) -> Self
         ensures { result ≡ gray_of gray }
     {
-        Self {
-            r: gray,
-            g: gray,
-            b: gray,
-            inks: Inks::None,
-        }
+        Self::from_rgb(gray, gray, gray)
     }
 
     fn from_rgb(r: f64, g: f64, b: f64) -> Self
@@ -66,7 +57,7 @@ impl DeviceColor {
             r,
             g,
             b,
-            inks: Inks::None,
+            inks: None,
         }
     }
 
@@ -77,7 +68,7 @@ impl DeviceColor {
             r: light(c, k),
             g: light(m, k),
             b: light(y, k),
-            inks: Inks::Cmyk(c, m, y, k),
+            inks: Some(Cmyk { c, m, y, k }),
         }
     }
 }
@@ -86,18 +77,10 @@ impl DeviceColor {
 pub fn components_to_color(comps: &[f64]) -> DeviceColor
     ensures { result ≡ colour_of comps.now }
 {
-    let n = comps.len();
-    if n == 1 {
-        return DeviceColor::from_gray(clamp01(comps[0]));
+    match comps {
+        [gray] => DeviceColor::from_gray(clamp01(*gray)),
+        [c, m, y, k] => DeviceColor::from_cmyk(clamp01(*c), clamp01(*m), clamp01(*y), clamp01(*k)),
+        [r, g, b, ..] => DeviceColor::from_rgb(clamp01(*r), clamp01(*g), clamp01(*b)),
+        _ => DeviceColor::from_gray(0.0),
     }
-    if n < 3 {
-        return DeviceColor::from_gray(0.0);
-    }
-    let a = clamp01(comps[0]);
-    let b = clamp01(comps[1]);
-    let c = clamp01(comps[2]);
-    if n == 4 {
-        return DeviceColor::from_cmyk(a, b, c, clamp01(comps[3]));
-    }
-    DeviceColor::from_rgb(a, b, c)
 }
