@@ -9,9 +9,9 @@ use native.Mathlib.Omega.{arith}
 use lib.ListN.{length}
 use borrow.Author.Tests.{eq-eqb, ne_eqb, lt-ltb, le-ltb, le-leb, lt-leb}
 use Rattle.bits.specs.declared.BitPos.{BitPos}
-use Rattle.std.specs.Prelude.{Option, Some, None}
+use Rattle.std.specs.Prelude.{Some, None}
 use Rattle.bits.specs.Bits.{field_at}
-use Rattle.bits.specs.Reading.{read_at}
+use Rattle.bits.specs.Reading.{BitRead, read_at}
 use Rattle.bits.proofs.Streams.{field_below}
 
 and-false : (b : Bool) → b && false ≡ false
@@ -53,13 +53,13 @@ module _ (s : List ℕ) (p n : ℕ) (nz : 1 ≤ n) where
   pub found : (v : ℕ) (q : BitPos) → Some (v, q) ≡ read_at s p n → Found s p n v q
   found v q e = by_wide (dec_le n 32)
     where
-      never : ◌≡◌ {A = Option (ℕ × BitPos)} (Some (v, q)) None → Found s p n v q
+      never : ◌≡◌ {A = BitRead} (Some (v, q)) None → Found s p n v q
       never z = let y : ◌≡◌ {A = ℕ} 0 1 = cc in absurd (omega arith)
 
       by_place : n ≤ 32 → p + n ≤ 8 * length s → Dec (2 ^ 64 ≤ p + n) → Found s p n v q
       by_place w h (yes u) = never (e ∙ sym (answer_unplaced s p n nz u))
       by_place w h (no u) =
-          let f : ◌≡◌ {A = Option (ℕ × BitPos)} (Some (v, q)) (Some (field_at s p n, record { 0 = p + n })) = e ∙ sym (answer_number s p n nz w h (lt_of_not-le u)) in
+          let f : ◌≡◌ {A = BitRead} (Some (v, q)) (Some (field_at s p n, record { 0 = p + n })) = e ∙ sym (answer_number s p n nz w h (lt_of_not-le u)) in
           let pair : ◌≡◌ {A = ℕ × BitPos} (v, q) (field_at s p n, record { 0 = p + n }) = cc f in
           let ev : v ≡ field_at s p n = ap (λ (x : ℕ × BitPos). x.0) pair in
           let eq : q ≡ record { 0 = p + n } = ap (λ (x : ℕ × BitPos). x.1) pair in
@@ -80,5 +80,5 @@ module _ (s : List ℕ) (p n : ℕ) (nz : 1 ≤ n) where
       by_whole : Dec (p + n ≤ 8 * length s) → 8 * length s < p + n
       by_whole (no h) = lt_of_not-le h
       by_whole (yes h) =
-          let f : ◌≡◌ {A = Option (ℕ × BitPos)} None (Some (field_at s p n, record { 0 = p + n })) = e ∙ sym (answer_number s p n nz w h (omega arith)) in
+          let f : ◌≡◌ {A = BitRead} None (Some (field_at s p n, record { 0 = p + n })) = e ∙ sym (answer_number s p n nz w h (omega arith)) in
           let y : ◌≡◌ {A = ℕ} 0 1 = cc f in omega arith

@@ -11,8 +11,12 @@ readable w = leb 1 w && leb w 32
 abbrev pub exist : List ℕ → ℕ → ℕ → Bool
 exist s p n = leb (p + n) (8 * length s) && ltb (p + n) (2 ^ 64)
 
+-- the number that a read finds, and the place after it; or None: the end
+abbrev pub BitRead : Type 0
+BitRead = Option (ℕ × BitPos)
+
 -- A read of 0 bits gives 0; of 1 to 32 bits gives the number if all bits exist; else the end. With a number comes the place after it.
-unfoldable pub read_at : List ℕ → ℕ → ℕ → Option (ℕ × BitPos)
+unfoldable pub read_at : List ℕ → ℕ → ℕ → BitRead
 read_at s p n =
     cond (eqb n 0) (Some (0, record { 0 = p }))
     (cond (leb n 32 && exist s p n) (Some (field_at s p n, record { 0 = p + n })) None)

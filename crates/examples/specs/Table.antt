@@ -1,17 +1,14 @@
 -- Document 01, "Examples (P is proved)": a row for each fact. Every answer is written as numbers: a float by its bits, a refusal by its number.
-use Rattle.std.specs.Prelude.{ℕ, Bool, true, false, ◌&&◌, cond, List, [], ◌∷◌, ◌++◌, map, eqb, Float}
+use Rattle.std.specs.Prelude.{Some, None, ℕ, Bool, true, false, ◌&&◌, cond, List, [], ◌∷◌, ◌++◌, map, eqb, Float}
 use Rattle.lists.specs.Lists.{flat}
 use Rattle.std.specs.Float.{nan, binary64}
 use Rattle.std.specs.Float.Ieee.{of_bits, to_bits}
 use Rattle.answers.specs.declared.Refusal.TheVariants.{Layout}
 use Rattle.answers.specs.Outcome.{number_of, Outcome, refused, wrote}
-use Rattle.bits.specs.declared.BitRead.{BitRead}
-use Rattle.bits.specs.declared.BitRead.TheVariants.{Number, End}
-use Rattle.bits.specs.Reading.{read_at}
+use Rattle.bits.specs.Reading.{BitRead, read_at}
 use Rattle.decode.specs.Decode.{flag_of}
 use Rattle.colour.specs.declared.DeviceColor.{DeviceColor}
 use Rattle.colour.specs.Colour.{colour_of}
-use Rattle.records.specs.declared.layout.FlagWidth.TheVariants.{Absent, Bits}
 use Rattle.records.specs.Layout.{layout_readable}
 use Rattle.records.specs.declared.shape.Kind.TheVariants.{Four, Five}
 use Rattle.records.specs.Format.{format, raw_reading}
@@ -45,8 +42,8 @@ all_same (r ∷ rs) = same r.gives r.has && all_same rs
 
 -- a number and the place after it; nothing for the end
 abbrev pub read_numbers : BitRead → List ℕ
-read_numbers (Number v q) = v ∷ q.0 ∷ []
-read_numbers End = []
+read_numbers (Some read) = read.0 ∷ read.1.0 ∷ []
+read_numbers None = []
 
 -- 0 where a layout is readable, else the number of LAYOUT
 abbrev pub layout_number : Bool → List ℕ
@@ -80,7 +77,7 @@ five_bytes = 0x01 ∷ 0xFF ∷ 0xFF ∷ 0xFF ∷ 0xFE ∷ []
 
 -- every width the same, or the coordinate, the component or the flag another one
 abbrev pub widths : ℕ → ℕ → ℕ → List ℕ
-widths coord comp flag = layout_number (layout_readable coord comp (Bits flag) 4)
+widths coord comp flag = layout_number (layout_readable coord comp (Some flag) 4)
 
 -- CMYK 0.25 0 0 0.5
 abbrev pub inks : List Float
@@ -151,9 +148,9 @@ table =
     ∷ row 4 (widths 8 33 8) (1 ∷ [])
     ∷ row 4 (widths 8 8 33) (1 ∷ [])
     -- Decode of 3 entries fails, of 4 passes, with a flag width and without
-    ∷ row 4 (layout_number (layout_readable 8 8 (Bits 8) 3)) (1 ∷ [])
-    ∷ row 4 (layout_number (layout_readable 8 8 Absent 3)) (1 ∷ [])
-    ∷ row 4 (layout_number (layout_readable 8 8 Absent 4)) (0 ∷ [])
+    ∷ row 4 (layout_number (layout_readable 8 8 (Some 8) 3)) (1 ∷ [])
+    ∷ row 4 (layout_number (layout_readable 8 8 None 3)) (1 ∷ [])
+    ∷ row 4 (layout_number (layout_readable 8 8 None 4)) (0 ∷ [])
     -- Type 5, widths 1 and 1, one component: THIN, with no room either. Widths 3 and 2: 5 2 3 writes AB
     ∷ row 5 (outcome_numbers (raw_write Five 1 1 1 1 (1 ∷ 1 ∷ 1 ∷ []) 0)) (6 ∷ [])
     ∷ row 5 (outcome_numbers (raw_write Five 3 3 2 1 (5 ∷ 2 ∷ 3 ∷ []) 1)) (0 ∷ 1 ∷ 0xAB ∷ [])

@@ -7,7 +7,7 @@ use borrow.Author.Tests.{lt-ltb, le-ltb}
 use lib.ListN.{length}
 use lib.Ieee.{Float}
 use Rattle.answers.specs.declared.Refusal.TheVariants.{Layout, Components, Length}
-use Rattle.answers.specs.declared.Answer.TheVariants.{Refused}
+use Rattle.std.specs.Prelude.{Err}
 use Rattle.answers.specs.Limits.{most_components, most_bytes, most_numbers}
 use Rattle.answers.specs.Outcome.{Done}
 use Rattle.answers.proofs.Outcomes.{was_refused}
@@ -20,17 +20,17 @@ module _ (m : Stream) (mesh : Source ℕ Float → ℕ → List ℕ → Finished
   abbrev layout : Bool
   layout = layout_readable m.coord m.comp m.flag (length m.entries)
 
-  pub unreadable : layout ≡ false → Done (parsed m mesh s (length entry)) entry (Refused Layout) entry
+  pub unreadable : layout ≡ false → Done (parsed m mesh s (length entry)) entry (Err Layout) entry
   unfolding parsed
   unreadable e = rw e was_refused
 
   module _ (e : layout ≡ true) where
-    pub many_components : most_components < m.n → Done (parsed m mesh s (length entry)) entry (Refused Components) entry
+    pub many_components : most_components < m.n → Done (parsed m mesh s (length entry)) entry (Err Components) entry
     unfolding parsed
     many_components h = rw e (simp (lt-ltb _ _ h) was_refused)
 
     module _ (few : m.n ≤ most_components) where
-      pub too_long : most_bytes < length s → Done (parsed m mesh s (length entry)) entry (Refused Length) entry
+      pub too_long : most_bytes < length s → Done (parsed m mesh s (length entry)) entry (Err Length) entry
       unfolding parsed
       too_long h = rw e (simp (le-ltb _ _ few, lt-ltb _ _ h) was_refused)
 
@@ -39,12 +39,12 @@ module _ (m : Stream) (mesh : Source ℕ Float → ℕ → List ℕ → Finished
       accepted h = rw e (simp (le-ltb _ _ few, le-ltb _ _ h))
 
 module _ (mesh : Source Float Float → ℕ → List Float → Finished Float) (n : ℕ) (vs entry : List Float) where
-  pub list_components : most_components < n → Done (built mesh n vs (length entry)) entry (Refused Components) entry
+  pub list_components : most_components < n → Done (built mesh n vs (length entry)) entry (Err Components) entry
   unfolding built
   list_components h = simp (lt-ltb _ _ h) was_refused
 
   module _ (few : n ≤ most_components) where
-    pub list_too_long : most_numbers < length vs → Done (built mesh n vs (length entry)) entry (Refused Length) entry
+    pub list_too_long : most_numbers < length vs → Done (built mesh n vs (length entry)) entry (Err Length) entry
     unfolding built
     list_too_long h = simp (le-ltb _ _ few, lt-ltb _ _ h) was_refused
 

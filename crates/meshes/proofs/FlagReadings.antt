@@ -13,7 +13,7 @@ use Rattle.lists.specs.Lists.{All}
 use Rattle.bits.specs.Bits.{stream}
 use Rattle.bits.proofs.Streams.{length-stream, stream_below}
 use Rattle.decode.specs.Decode.{Ranges}
-use Rattle.records.specs.declared.layout.FlagWidth.TheVariants.{Bits}
+use Rattle.std.specs.Prelude.{Some}
 use Rattle.records.specs.declared.shape.Kind.{Kind}
 use Rattle.records.specs.declared.shape.Kind.TheVariants.{Four, Six, Seven}
 use Rattle.records.specs.Layout.{layout_readable}
@@ -54,13 +54,13 @@ same_length s t e = omega (arith, length-stream s, length-stream t)
 
 module _ (kind : Kind) (coord comp flag : ℕ) (entries : List Float) (n : ℕ) where
   abbrev pub by : Meaning → Stream
-  by meaning = record { kind = kind; meaning = meaning; flag = Bits flag; coord = coord; comp = comp; entries = entries; n = n }
+  by meaning = record { kind = kind; meaning = meaning; flag = Some flag; coord = coord; comp = comp; entries = entries; n = n }
 
   abbrev F : Meaning → Format
   F meaning = format_by meaning kind flag coord comp n
 
   abbrev readable : Bool
-  readable = layout_readable coord comp (Bits flag) (length entries)
+  readable = layout_readable coord comp (Some flag) (length entries)
 
   -- every call is refused alike, so the mesh of an accepted one decides
   pub same_outcome : (mesh : Mesh) (meaning meaning' : Meaning) (s t : List ℕ) → length s ≡ length t
@@ -97,7 +97,7 @@ module _ (kind : Kind) (coord comp flag : ℕ) (entries : List Float) (n : ℕ) 
     word_outcome meaning meaning' h s =
         same_outcome mesh meaning meaning' s s refl
         (λ e.
-        let w = layout_widths (Bits flag) coord comp (length entries) e in
+        let w = layout_widths (Some flag) coord comp (length entries) e in
         let xs : List ℕ = met (F meaning) (length (stream s)) false (stream s) in
         kept meaning meaning' _ n _ _
         (met_alike kind flag coord comp n meaning meaning' (length (stream s)) false (stream s)

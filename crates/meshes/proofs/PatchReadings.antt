@@ -12,7 +12,7 @@ use lib.Ieee.{Float, nan}
 use Rattle.lists.specs.Lists.{All}
 use Rattle.answers.specs.Limits.{most_components, most_numbers}
 use Rattle.answers.specs.Outcome.{told, Outcome, refuse_if, fitted, tells}
-use Rattle.answers.specs.declared.Answer.TheVariants.{Wrote}
+use Rattle.std.specs.Prelude.{Ok}
 use Rattle.answers.specs.declared.Refusal.TheVariants.{Components, Length, Room}
 use Rattle.decode.specs.Decode.{flag_of}
 use Rattle.rules.specs.Patches.{Patch, Piece, Table, sides, list_sides, mesh}
@@ -41,7 +41,7 @@ module _ (vs : List Float) (n : ℕ) where
   told_alike true b c needed k m xs ys e = refl
   told_alike false true c needed k m xs ys e = refl
   told_alike false false true needed k m xs ys e = refl
-  told_alike false false false needed k m xs ys e = ap (λ (j : ℕ). told (Wrote j)) e
+  told_alike false false false needed k m xs ys e = ap (λ (j : ℕ). told (Ok j)) e
 
   -- so both readings of the Type 7 list answer every call alike
   pub type7_lists_tell_alike : (room : ℕ) → tells (build7 list_sides vs n room) ≡ tells (build7 sides vs n room)

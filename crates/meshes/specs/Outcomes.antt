@@ -1,13 +1,11 @@
 -- What each reader and builder answers and leaves, for every input: document 01, "Refusal numbers" and "Records". A mesh read from bytes is Decode
 -- and the rules over the raw reading; one built from a list is the rules over the list.
-use Rattle.std.specs.Prelude.{ℕ, not, List, length, ltb, Float}
+use Rattle.std.specs.Prelude.{Option, Some, None, ℕ, not, List, length, ltb, Float}
 use Rattle.std.proofs.Math.Option.{none}
 use Rattle.answers.specs.declared.Refusal.TheVariants.{Layout, Components, Length}
 use Rattle.answers.specs.Limits.{most_components, most_bytes, most_numbers}
 use Rattle.answers.specs.Outcome.{Outcome, refuse_if, fitted}
 use Rattle.decode.specs.Decode.{ranges}
-use Rattle.records.specs.declared.layout.FlagWidth.{FlagWidth}
-use Rattle.records.specs.declared.layout.FlagWidth.TheVariants.{Absent, Bits}
 use Rattle.records.specs.declared.shape.Kind.{Kind}
 use Rattle.records.specs.declared.shape.Kind.TheVariants.{Four, Five, Six, Seven}
 use Rattle.records.specs.Layout.{first_width, layout_readable}
@@ -28,7 +26,7 @@ fitted_mesh mesh room = fitted mesh.count mesh.numbers room
 pub record Stream : Type 0 where
   pub kind : Kind
   pub meaning : Meaning
-  pub flag : FlagWidth
+  pub flag : Option ℕ
   pub coord : ℕ
   pub comp : ℕ
   pub entries : List Float
@@ -52,23 +50,23 @@ parsed m mesh s room =
 
 abbrev pub parse4 : Meaning → FlagRule → List ℕ → ℕ → ℕ → ℕ → List Float → ℕ → ℕ → Outcome Float
 parse4 meaning rule s coord comp flag entries n room =
-    parsed (record { kind = Four; meaning = meaning; flag = Bits flag; coord = coord; comp = comp; entries = entries; n = n })
+    parsed (record { kind = Four; meaning = meaning; flag = Some flag; coord = coord; comp = comp; entries = entries; n = n })
     (type4_mesh rule) s room
 
 -- Type 5 has no flags
 abbrev pub parse5 : List ℕ → ℕ → ℕ → List Float → ℕ → ℕ → ℕ → Outcome Float
 parse5 s coord comp entries n row room =
-    parsed (record { kind = Five; meaning = whole_number; flag = Absent; coord = coord; comp = comp; entries = entries; n = n })
+    parsed (record { kind = Five; meaning = whole_number; flag = None; coord = coord; comp = comp; entries = entries; n = n })
     (type5_mesh row) s room
 
 abbrev pub parse6 : Meaning → Table → List ℕ → ℕ → ℕ → ℕ → List Float → ℕ → ℕ → Outcome Float
 parse6 meaning T s coord comp flag entries n room =
-    parsed (record { kind = Six; meaning = meaning; flag = Bits flag; coord = coord; comp = comp; entries = entries; n = n })
+    parsed (record { kind = Six; meaning = meaning; flag = Some flag; coord = coord; comp = comp; entries = entries; n = n })
     (patch_mesh T 8) s room
 
 abbrev pub parse7 : Meaning → Table → List ℕ → ℕ → ℕ → ℕ → List Float → ℕ → ℕ → Outcome Float
 parse7 meaning T s coord comp flag entries n room =
-    parsed (record { kind = Seven; meaning = meaning; flag = Bits flag; coord = coord; comp = comp; entries = entries; n = n })
+    parsed (record { kind = Seven; meaning = meaning; flag = Some flag; coord = coord; comp = comp; entries = entries; n = n })
     (patch_mesh T 12) s room
 
 -- the ported reader of a type; the row length is used by Type 5 alone

@@ -9,7 +9,7 @@ use lib.ListN.{length, take, drop, length-append}
 use lib.Seq.{take_at, take_all, take-append-le}
 use Rattle.lists.specs.Lists.{Begins}
 use Rattle.lists.proofs.Members.{begins_of_take}
-use Rattle.answers.specs.declared.Answer.{Answer}
+use Rattle.answers.specs.Outcome.{Answer}
 use Rattle.answers.specs.declared.Told.{Told}
 use Rattle.answers.specs.Limits.{most_components, most_bytes}
 use Rattle.answers.specs.Outcome.{told, Outcome, wrote, fitted, Done}

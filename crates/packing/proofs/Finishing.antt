@@ -9,7 +9,7 @@ use lib.ListN.{length}
 use Rattle.lists.specs.Writing.{Written}
 use Rattle.lists.proofs.Writing.{written_then}
 use Rattle.answers.specs.declared.Refusal.TheVariants.{Room, Record}
-use Rattle.answers.specs.declared.Answer.TheVariants.{Wrote, Refused}
+use Rattle.std.specs.Prelude.{Ok, Err}
 use Rattle.answers.specs.Outcome.{Done}
 use Rattle.answers.proofs.Outcomes.{was_refused, no_room, all_written}
 use Rattle.bits.specs.Bits.{bits_of}
@@ -35,13 +35,13 @@ measured_bits (some bits) total e = (bits, refl, cc)
 -- ---- how the call ends
 
 module _ (o : Option (List ℕ)) where
-  pub not_accepted : (entry : List ℕ) → o ≡ none → Done (in_bytes o (length entry)) entry (Refused Record) entry
+  pub not_accepted : (entry : List ℕ) → o ≡ none → Done (in_bytes o (length entry)) entry (Err Record) entry
   unfolding in_bytes
   not_accepted entry e = rw e was_refused
 
   module _ (bits : List ℕ) (e : o ≡ some bits) where
     pub without_room : (entry : List ℕ) {size : ℕ} → byte_count (length bits) ≡ size → length entry < size
-        → Done (in_bytes o (length entry)) entry (Refused (Room size)) entry
+        → Done (in_bytes o (length entry)) entry (Err (Room size)) entry
     unfolding in_bytes
     without_room entry z h = rw e (no_room (length (bytes bits)) (bytes bits) (length-bytes bits ∙ z) h)
 
@@ -54,7 +54,7 @@ module _ (o : Option (List ℕ)) where
     room_is room h = subst (λ (x : Option (List ℕ)). Roomy x room) e h
 
     pub all_put : {entry mid exit : List ℕ} (w : Waiting) (p : ℕ) → Put (record { at = 0; count = 0; bits = 0 }) w entry mid bits
-        → Written mid exit w.at (bytes (bits_of w.count w.bits)) p → Done (in_bytes o (length entry)) entry (Wrote p) exit
+        → Written mid exit w.at (bytes (bits_of w.count w.bits)) p → Done (in_bytes o (length entry)) entry (Ok p) exit
     unfolding in_bytes bits_of
     all_put {entry} {mid} {exit} w p f g =
         let same : bytes bits ≡ f.bytes ++ bytes (bits_of w.count w.bits) = ap bytes (sym f.same) ∙ bytes_after f.bytes (bits_of w.count w.bits) f.clean in

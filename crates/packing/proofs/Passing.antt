@@ -10,7 +10,7 @@ use borrow.Author.Tests.{lt-ltb}
 use lib.ListN.{length, drop, length-append}
 use lib.Seq.{drop-length}
 use Rattle.bits.proofs.Digits.{length-bits}
-use Rattle.records.specs.declared.shape.Mesh.{Mesh}
+use Rattle.records.specs.declared.mesh.Mesh.{Mesh}
 use Rattle.packing.specs.declared.finding.Found.TheVariants.{Record, End}
 use Rattle.packing.specs.Packed.{prefixed, packed}
 use Rattle.records.specs.Inner.Walk.{format_of, record_size}

@@ -13,7 +13,7 @@ use lib.Seq.{drop-cons, drop-drop}
 use Rattle.lists.specs.Lists.{flat}
 use Rattle.bits.specs.Bits.{bits_of}
 use Rattle.records.specs.Format.{Format}
-use Rattle.records.specs.declared.shape.Mesh.{Mesh}
+use Rattle.records.specs.declared.mesh.Mesh.{Mesh}
 use Rattle.packing.specs.Packed.{prefixed, field, packed}
 use Rattle.records.specs.Inner.Walk.{format_of, widths_after}
 use Rattle.packing.specs.Inner.Passes.{run_at, fits, run_bits, record_fits, record_bits}

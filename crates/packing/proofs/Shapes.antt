@@ -12,7 +12,7 @@ use Rattle.records.specs.declared.shape.Shape.TheVariants.{Follows, Ends}
 use Rattle.records.specs.Format.{shape_of, widths_of}
 use Rattle.records.specs.Inner.Walk.{Readable}
 use Rattle.records.proofs.Shapes.{small}
-use Rattle.records.specs.declared.shape.Mesh.{Mesh}
+use Rattle.records.specs.declared.mesh.Mesh.{Mesh}
 use Rattle.packing.specs.declared.finding.Found.TheVariants.{Record, End}
 use Rattle.packing.specs.Inner.Passes.{FoundIn}
 

@@ -13,7 +13,7 @@ use Rattle.bits.specs.Bits.{stream}
 use Rattle.bits.proofs.Streams.{length-stream}
 use Rattle.records.specs.declared.shape.Kind.{Kind}
 use Rattle.records.specs.declared.shape.Kind.TheVariants.{Four, Five}
-use Rattle.records.specs.declared.shape.Shape.TheVariants.{Follows}
+use Rattle.records.specs.Following.{follows}
 use Rattle.records.specs.Format.{sum, Format, shape_of, format, next, readings, raw_reading}
 use Rattle.records.proofs.Readings.{sum-append, sum-replicate, length-numbers, next_none, next_fits, readings_none, readings_some}
 
@@ -50,7 +50,7 @@ module _ (F : Format) (ws : List ℕ) (same : (started : Bool) (x : ℕ) → F.m
 
 -- ---- vertices
 
-module _ (kind : Kind) (first coord comp n coords : ℕ) (shape : (started : Bool) (x : ℕ) → shape_of kind started x ≡ Follows coords 1) where
+module _ (kind : Kind) (first coord comp n coords : ℕ) (shape : (started : Bool) (x : ℕ) → shape_of kind started x ≡ follows coords 1) where
   pub vertex_more : (started : Bool) (x : ℕ) → (format kind first coord comp n).more started x ≡ some (replicate coords coord ++ replicate n comp)
   vertex_more started x = rw (shape started x, one-mul)
 

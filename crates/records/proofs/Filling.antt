@@ -14,8 +14,8 @@ use Rattle.lists.proofs.Writing.{written_length}
 use Rattle.lists.proofs.Walking.{going_start, going_step, going_end}
 use Rattle.answers.specs.Limits.{most_bytes}
 use Rattle.bits.specs.Bits.{stream, field_at}
-use Rattle.records.specs.declared.shape.Shape.TheVariants.{Follows, Ends}
-use Rattle.records.specs.declared.shape.Mesh.{Mesh}
+use Rattle.records.specs.Following.{follows, ends}
+use Rattle.records.specs.declared.mesh.Mesh.{Mesh}
 use Rattle.records.specs.Format.{shape_of, next, raw_reading}
 use Rattle.records.specs.Inner.Walk.{format_of, Readable, Run, numbers_at, widths_after, record_size, Standing, Vertices, Counted}
 use Rattle.records.proofs.Finding.{no_first_number, mesh_ends, record_cut, record_stands}
@@ -93,7 +93,7 @@ module _ {m : Mesh} {s l o : List ℕ} {count p at : ℕ} {started : Bool} (w : 
           omega (arith, w.counted.room, w.same),
         )
 
-    module _ {lead coords colours : ℕ} (value : lead ≡ field_at s at m.first) (e : Follows coords colours ≡ shape_of m.kind started lead) where
+    module _ {lead coords colours : ℕ} (value : lead ≡ field_at s at m.first) (e : follows coords colours ≡ shape_of m.kind started lead) where
       record_turn : Dec (at + record_size m coords (colours * m.n) ≤ 8 * length s)
           → Turn m s o count p at started coords (colours * m.n)
       record_turn (yes g) = turn (record_stands m s started at w.within lead value e _ (small started lead w.readable e) refl g)
@@ -104,10 +104,10 @@ module _ {m : Mesh} {s l o : List ℕ} {count p at : ℕ} {started : Bool} (w : 
 
     -- a patch's flag has been written
     module _ {o' : List ℕ} {q : ℕ} (v : Written o o' p (numbers_at s at (replicate 1 m.first)) q) where
-      pub patch_goes_on : Ends ≡ shape_of m.kind started (get_or o' p 0) → ⊥
+      pub patch_goes_on : ends ≡ shape_of m.kind started (get_or o' p 0) → ⊥
       patch_goes_on e = goes_on (mesh_ends m s started at w.within _ (run_of_one s at m.first v) e)
 
-      pub patch_turn : {coords colours : ℕ} → Follows coords colours ≡ shape_of m.kind started (get_or o' p 0)
+      pub patch_turn : {coords colours : ℕ} → follows coords colours ≡ shape_of m.kind started (get_or o' p 0)
           → Turn m s o count p at started coords (colours * m.n)
       patch_turn e = record_turn (run_of_one s at m.first v) e (dec_le _ (8 * length s))
 

@@ -7,9 +7,8 @@ use mathlib.Core.Option.{none, some-injective, none-ne-some}
 use native.Mathlib.Omega.{arith}
 use lib.ListN.{length, take, drop, replicate, length-append, length-replicate}
 use Rattle.bits.specs.Bits.{number, stream, field_at}
-use Rattle.records.specs.declared.shape.Shape.{Shape}
-use Rattle.records.specs.declared.shape.Shape.TheVariants.{Follows, Ends}
-use Rattle.records.specs.declared.shape.Mesh.{Mesh}
+use Rattle.records.specs.Following.{Following, follows, ends}
+use Rattle.records.specs.declared.mesh.Mesh.{Mesh}
 use Rattle.records.specs.Format.{sum, shape_of, widths_of, next}
 use Rattle.records.specs.Inner.Walk.{format_of, widths_after, record_size, Standing}
 use Rattle.records.proofs.Readings.{length_from, sum-append, sum-replicate, next_none, next_fits}
@@ -32,16 +31,16 @@ module _ (m : Mesh) (s : List ℕ) (started : Bool) (p : ℕ) (within : p ≤ 8 
   no_first_number h = next_none (format_of m) started (drop p (stream s)) (λ ws e. omega (arith, length_from s p within))
 
   module _ (lead : ℕ) (value : lead ≡ field_at s p m.first) where
-    more_is : {h : Shape} → h ≡ shape_of m.kind started lead
+    more_is : {h : Following} → h ≡ shape_of m.kind started lead
         → (format_of m).more started (number (take m.first (drop p (stream s)))) ≡ widths_of m.coord m.comp m.n h
     unfolding field_at
     more_is e = rw (e, value)
 
-    pub mesh_ends : Ends ≡ shape_of m.kind started lead → next (format_of m) started (drop p (stream s)) ≡ none
+    pub mesh_ends : ends ≡ shape_of m.kind started lead → next (format_of m) started (drop p (stream s)) ≡ none
     mesh_ends e =
         next_none (format_of m) started (drop p (stream s)) (λ ws q. absurd (none-ne-some ws (sym (more_is e) ∙ q)))
 
-    module _ {coords colours : ℕ} (e : Follows coords colours ≡ shape_of m.kind started lead) where
+    module _ {coords colours : ℕ} (e : follows coords colours ≡ shape_of m.kind started lead) where
       pub record_cut : 8 * length s < p + record_size m coords (colours * m.n)
           → next (format_of m) started (drop p (stream s)) ≡ none
       record_cut h =

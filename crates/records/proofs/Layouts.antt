@@ -10,7 +10,7 @@ use lib.ListN.{replicate}
 use Rattle.lists.specs.Lists.{All}
 use Rattle.lists.proofs.Members.{all_append, all_replicate}
 use Rattle.bits.specs.Reading.{readable}
-use Rattle.records.specs.declared.layout.FlagWidth.{FlagWidth}
+use Rattle.std.specs.Prelude.{Option}
 use Rattle.records.specs.Layout.{first_width, widths_readable, layout_readable}
 
 both_true : (a b : Bool) → a && b ≡ true → (a ≡ true) × (b ≡ true)
@@ -38,7 +38,7 @@ widths_readable_lem first coord comp e =
     let u = both_true (readable comp) (readable first) t.1 in
     record { of_first = width_readable first u.1; of_coord = width_readable coord t.0; of_comp = width_readable comp u.0 }
 
-pub layout_widths : (flag : FlagWidth) (coord comp entries : ℕ) → layout_readable coord comp flag entries ≡ true → Widths (first_width flag coord) coord comp
+pub layout_widths : (flag : Option ℕ) (coord comp entries : ℕ) → layout_readable coord comp flag entries ≡ true → Widths (first_width flag coord) coord comp
 unfolding layout_readable
 layout_widths flag coord comp entries e =
     widths_readable_lem (first_width flag coord) coord comp (both_true (widths_readable (first_width flag coord) coord comp) (leb 4 entries) e).0

@@ -13,15 +13,14 @@ use lib.ListN.{length, take, drop, replicate, length-drop}
 use lib.Seq.{drop-drop}
 use Rattle.lists.specs.Lists.{All}
 use Rattle.lists.proofs.Members.{all_append, all_replicate}
-use Rattle.bits.specs.declared.BitRead.TheVariants.{Number}
 use Rattle.bits.specs.Bits.{bits_of, number, stream, field_at}
 use Rattle.bits.specs.Reading.{read_at}
 use Rattle.bits.proofs.Streams.{length-stream}
 use Rattle.bits.proofs.Answers.{answer_number, answer_short}
 use Rattle.records.specs.declared.shape.Kind.{Kind}
 use Rattle.records.specs.declared.shape.Kind.TheVariants.{Four, Five, Six, Seven}
-use Rattle.records.specs.declared.shape.Shape.{Shape}
-use Rattle.records.specs.declared.shape.Shape.TheVariants.{Follows, Ends}
+use Rattle.std.specs.Prelude.{Some, None}
+use Rattle.records.specs.Following.{Following}
 use Rattle.records.specs.Layout.{widths_readable}
 use Rattle.records.specs.Format.{sum, numbers, Format, patch_shape, shape_of, widths_of, format, next, readings, raw_reading}
 use Rattle.records.specs.Loop.{ok, cut, prepend, reads, pushed, patch_round, flagged, loop}
@@ -42,7 +41,7 @@ record Level (F : Format) (m : ℕ) : Type 0 where
 -- ---- the reads of a patch
 
 module _ (s : List ℕ) (short : length s < 2 ^ 61) (m : ℕ) where
-  read_some : (p w : ℕ) → Width m w → p + w ≤ 8 * length s → read_at s p w ≡ Number (number (take w (drop p (stream s)))) (record { 0 = p + w })
+  read_some : (p w : ℕ) → Width m w → p + w ≤ 8 * length s → read_at s p w ≡ Some (number (take w (drop p (stream s))), record { 0 = p + w })
   unfolding field_at
   read_some p w l e = sym (answer_number s p w l.0 l.1 e (omega arith))
 
@@ -173,9 +172,9 @@ module _ (F : Format) (m : ℕ) (lv : Level F m) (s : List ℕ) (short : length 
 -- ---- the four mesh types
 
 -- a coordinate and a colour at least follow a record's first number
-Filled : Shape → Type 0
-Filled (Follows coords colours) = (1 ≤ coords) × (1 ≤ colours)
-Filled Ends = Unit {0}
+Filled : Following → Type 0
+Filled (Some shape) = (1 ≤ shape.coords) × (1 ≤ shape.colours)
+Filled None = Unit {0}
 
 patch_filled : (own : ℕ) → 1 ≤ own → (started : Bool) (x : ℕ) → Filled (patch_shape own started x)
 unfolding Filled
@@ -193,23 +192,23 @@ module _ (coord comp : ℕ) (c : (1 ≤ coord) × (coord ≤ 32)) (d : (1 ≤ co
   component_widths zero colours = rw mul-zero tt
   component_widths (suc n) colours = all_replicate (Width (coord + suc n * comp)) (colours * suc n) comp (omega arith)
 
-  shape_widths : (n : ℕ) (sh : Shape) (ws : List ℕ) → widths_of coord comp n sh ≡ some ws → Filled sh
+  shape_widths : (n : ℕ) (sh : Following) (ws : List ℕ) → widths_of coord comp n sh ≡ some ws → Filled sh
       → All (Width (coord + n * comp)) ws × (coord + n * comp ≤ sum ws)
   unfolding Filled
-  shape_widths n (Follows coords colours) ws e f =
+  shape_widths n (Some shape) ws e f =
       rw (← some-injective _ ws e) (
-        all_append (Width (coord + n * comp)) (replicate coords coord) (replicate (colours * n) comp)
-            (all_replicate (Width (coord + n * comp)) coords coord (omega arith)) (component_widths n colours),
+        all_append (Width (coord + n * comp)) (replicate shape.coords coord) (replicate (shape.colours * n) comp)
+            (all_replicate (Width (coord + n * comp)) shape.coords coord (omega arith)) (component_widths n shape.colours),
         omega (
           arith,
-          sum-append (replicate coords coord) (replicate (colours * n) comp),
-          sum-replicate coords coord,
-          sum-replicate (colours * n) comp,
+          sum-append (replicate shape.coords coord) (replicate (shape.colours * n) comp),
+          sum-replicate shape.coords coord,
+          sum-replicate (shape.colours * n) comp,
           mul-le-mul f.0 (le_refl coord),
           mul-le-mul f.1 (le_refl (n * comp)),
         ),
       )
-  shape_widths n Ends ws e f = absurd (none-ne-some ws e)
+  shape_widths n None ws e f = absurd (none-ne-some ws e)
 
   every_level : (kind : Kind) (first n : ℕ) → (1 ≤ first) × (first ≤ 32) → Level (format kind first coord comp n) (coord + n * comp)
   every_level kind first n f =

@@ -18,7 +18,7 @@ use Rattle.bits.specs.Bits.{number}
 use Rattle.bits.proofs.Digits.{number_below}
 use Rattle.records.specs.declared.shape.Kind.{Kind}
 use Rattle.records.specs.declared.shape.Kind.TheVariants.{Four, Five, Six, Seven}
-use Rattle.records.specs.declared.shape.Shape.TheVariants.{Follows, Ends}
+use Rattle.records.specs.Following.{follows, ends}
 use Rattle.records.specs.Format.{sum, numbers, Meaning, Format, points_after, colours_after, shape_of, widths_of, format_by, whole, next, readings}
 use Rattle.records.specs.Flags.{met}
 use Rattle.records.proofs.Readings.{length-numbers, next_some, next_none, next_size, readings_none, readings_some}
@@ -35,7 +35,7 @@ module _ (coord comp n : ℕ) where
   length-widths : (coords colours : ℕ) → length (replicate coords coord ++ replicate (colours * n) comp) ≡ coords + colours * n
   length-widths coords colours = rw (length-append, length-replicate coords coord, length-replicate (colours * n) comp)
 
-  pub patch_size_lem : (t : Bool) (coords colours : ℕ) (ws : List ℕ) → widths_of coord comp n (cond t (Follows coords colours) Ends) ≡ some ws
+  pub patch_size_lem : (t : Bool) (coords colours : ℕ) (ws : List ℕ) → widths_of coord comp n (cond t (follows coords colours) ends) ≡ some ws
       → length ws ≡ coords + colours * n
   patch_size_lem true coords colours ws e = rw (← some-injective _ ws e) (length-widths coords colours)
   patch_size_lem false coords colours ws e = absurd (none-ne-some ws e)

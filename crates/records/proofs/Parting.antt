@@ -12,7 +12,7 @@ use lib.ListN.{length, take, drop, replicate, length-drop}
 use Rattle.bits.specs.Bits.{bits_of, number, stream}
 use Rattle.records.specs.declared.shape.Kind.{Kind}
 use Rattle.records.specs.declared.shape.Kind.TheVariants.{Four, Five, Six, Seven}
-use Rattle.records.specs.declared.shape.Shape.TheVariants.{Ends}
+use Rattle.records.specs.Following.{ends}
 use Rattle.records.specs.Format.{sum, numbers, whole_number, two_low_bits, Format, patch_shape, shape_of, widths_of, format_by, whole, next, readings, raw_reading}
 use Rattle.records.specs.Flags.{Left, left}
 use Rattle.records.proofs.Readings.{length-numbers, next_some, next_fits, next_none, next_size, readings_none, readings_some, readings_enough}
@@ -53,7 +53,7 @@ pub data PatchKind : Kind → ℕ → Type 0 where
   type6 : PatchKind Six 8
   type7 : PatchKind Seven 12
 
-above_ends : (own : ℕ) (started : Bool) (x : ℕ) → 3 < x → patch_shape own started x ≡ Ends
+above_ends : (own : ℕ) (started : Bool) (x : ℕ) → 3 < x → patch_shape own started x ≡ ends
 above_ends own true x h = rw (ne_eqb x 0 (λ e. omega arith), lt-leb x 3 h)
 above_ends own false x h = rw (ne_eqb x 0 (λ e. omega arith))
 

@@ -13,11 +13,11 @@ use Rattle.lists.proofs.Members.{all_drop, all_replicate}
 use Rattle.lists.proofs.Writing.{written_none, written_set, written_then}
 use Rattle.answers.specs.Limits.{most_bytes}
 use Rattle.bits.specs.declared.BitPos.{BitPos}
-use Rattle.bits.specs.declared.BitRead.TheVariants.{Number, End}
+use Rattle.std.specs.Prelude.{Some, None}
 use Rattle.bits.specs.Bits.{stream, field_at}
 use Rattle.bits.specs.Reading.{read_at}
 use Rattle.bits.proofs.Answers.{found, ended}
-use Rattle.records.specs.declared.shape.Mesh.{Mesh}
+use Rattle.records.specs.declared.mesh.Mesh.{Mesh}
 use Rattle.records.specs.Format.{sum, numbers}
 use Rattle.records.specs.Inner.Walk.{Readable, Run, numbers_at, widths_after, record_size}
 use Rattle.records.proofs.Layouts.{Width, record_widths}
@@ -82,7 +82,7 @@ module _ {s : List ℕ} {p : ℕ} {ws : List ℕ} {count : ℕ} {l o : List ℕ}
     width = let a = rw (drop-cons ws k 0 more) at (all_drop Width k ws u.there.widths) in rw e a.0
 
     -- the next number is there
-    pub upto_goes_on : End ≡ read_at s at w → ⊥
+    pub upto_goes_on : None ≡ read_at s at w → ⊥
     upto_goes_on f =
         omega (
           arith,
@@ -94,7 +94,7 @@ module _ {s : List ℕ} {p : ℕ} {ws : List ℕ} {count : ℕ} {l o : List ℕ}
           ap sum (take-append-drop (k + 1) ws),
         )
 
-    pub upto_step : (v : ℕ) (next : BitPos) → Number v next ≡ read_at s at w → Upto s p ws count l (set o (q + k) v) q (k + 1) next.0
+    pub upto_step : (v : ℕ) (next : BitPos) → Some (v, next) ≡ read_at s at w → Upto s p ws count l (set o (q + k) v) q (k + 1) next.0
     unfolding numbers_at field_at numbers
     upto_step v next f =
         let r = found s at w width.some_bits v next f in

@@ -18,7 +18,7 @@ use Rattle.bits.specs.Reading.{exhausted_at}
 use Rattle.bits.proofs.Answers.{answer_number, answer_short}
 use Rattle.bits.proofs.Streams.{length-stream}
 use Rattle.records.specs.declared.shape.Kind.{Kind}
-use Rattle.records.specs.declared.shape.Shape.TheVariants.{Follows}
+use Rattle.records.specs.Following.{follows}
 use Rattle.records.specs.Layout.{widths_readable}
 use Rattle.records.specs.Format.{sum, numbers, Format, shape_of, format, readings, raw_reading}
 use Rattle.records.specs.Loop.{ok, cut, prepend, reads, kept_vertex, vertex_loop}
@@ -104,7 +104,7 @@ module _ (asks : ℕ → Bool) (F : Format) (ws : List ℕ) (same : (started : B
 
 -- the vertices of Types 4 and 5, with as many turns as there may be
 pub vertex_loop_lem : (asks : ℕ → Bool) (kind : Kind) (first coord comp n coords : ℕ)
-    → ((started : Bool) (x : ℕ) → shape_of kind started x ≡ Follows coords 1) → widths_readable first coord comp ≡ true
+    → ((started : Bool) (x : ℕ) → shape_of kind started x ≡ follows coords 1) → widths_readable first coord comp ≡ true
     → (s : List ℕ) → length s ≤ most_bytes → (k : ℕ) → 8 * length s ≤ k
     → vertex_loop asks (first ∷ (replicate coords coord ++ replicate n comp)) s k 0 ≡ raw_reading (format kind first coord comp n) s
 vertex_loop_lem asks kind first coord comp n coords shape readable s short k h =

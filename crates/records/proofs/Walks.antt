@@ -10,7 +10,7 @@ use lib.Seq.{drop-drop}
 use Rattle.bits.specs.Bits.{stream}
 use Rattle.answers.specs.Limits.{most_components}
 use Rattle.records.specs.declared.shape.Kind.{Kind}
-use Rattle.records.specs.declared.shape.Mesh.{Mesh}
+use Rattle.records.specs.declared.mesh.Mesh.{Mesh}
 use Rattle.records.specs.Layout.{widths_readable}
 use Rattle.records.specs.Format.{sum, next, readings, raw_reading}
 use Rattle.records.specs.Inner.Walk.{format_of, Readable, numbers_at, widths_after, Standing}

@@ -1,11 +1,10 @@
 -- The records of the four mesh types, and the raw reading of bytes: document 01, "Records, binary".
-use Rattle.std.specs.Prelude.{Bool, true, false, ◌&&◌, ◌||◌, cond, List, [], ◌∷◌, ◌++◌, ℕ, zero, suc, ◌+◌, ◌*◌, ◌%◌, leb, eqb, length, take, drop, replicate}
+use Rattle.std.specs.Prelude.{Some, None, Bool, true, false, ◌&&◌, ◌||◌, cond, List, [], ◌∷◌, ◌++◌, ℕ, zero, suc, ◌+◌, ◌*◌, ◌%◌, leb, eqb, length, take, drop, replicate}
 use Rattle.std.proofs.Math.Option.{Option, none, some}
 use Rattle.bits.specs.Bits.{number, stream}
 use Rattle.records.specs.declared.shape.Kind.{Kind}
 use Rattle.records.specs.declared.shape.Kind.TheVariants.{Four, Five, Six, Seven}
-use Rattle.records.specs.declared.shape.Shape.{Shape}
-use Rattle.records.specs.declared.shape.Shape.TheVariants.{Follows, Ends}
+use Rattle.records.specs.Following.{Following, follows, ends}
 
 -- ---- numbers side by side
 
@@ -49,21 +48,21 @@ colours_after zero = 4
 colours_after (suc flag) = 2
 
 -- Types 6 and 7: they follow flag 0, and flags 1 to 3 once there is a patch; else the mesh ends
-abbrev pub patch_shape : ℕ → Bool → ℕ → Shape
+abbrev pub patch_shape : ℕ → Bool → ℕ → Following
 patch_shape own started flag =
-    cond (eqb flag 0 || (started && leb flag 3)) (Follows (2 * points_after own flag) (colours_after flag)) Ends
+    cond (eqb flag 0 || (started && leb flag 3)) (follows (2 * points_after own flag) (colours_after flag)) ends
 
 -- how many coordinates and colours follow a record's first number: x and y after a Type 4 flag, y after a Type 5 x
-abbrev pub shape_of : Kind → Bool → ℕ → Shape
-shape_of Four started x = Follows 2 1
-shape_of Five started x = Follows 1 1
+abbrev pub shape_of : Kind → Bool → ℕ → Following
+shape_of Four started x = follows 2 1
+shape_of Five started x = follows 1 1
 shape_of Six started x = patch_shape 8 started x
 shape_of Seven started x = patch_shape 12 started x
 
 -- their widths, with n components to a colour
-abbrev pub widths_of : ℕ → ℕ → ℕ → Shape → Option (List ℕ)
-widths_of coord comp n (Follows coords colours) = some (replicate coords coord ++ replicate (colours * n) comp)
-widths_of coord comp n Ends = none
+abbrev pub widths_of : ℕ → ℕ → ℕ → Following → Option (List ℕ)
+widths_of coord comp n (Some shape) = some (replicate shape.coords coord ++ replicate (shape.colours * n) comp)
+widths_of coord comp n None = none
 
 -- a mesh type, where a record's first number, if it is a flag, has a meaning
 abbrev pub format_by : Meaning → Kind → ℕ → ℕ → ℕ → ℕ → Format

@@ -1,4 +1,6 @@
+pub mod Kinds
 pub mod Layout
+pub mod Following
 pub mod Format
 pub mod Raw
 pub mod Loop

@@ -1,9 +1,7 @@
 -- The loops of 000, read by read, for theorems to compare the raw reading with.
-use Rattle.std.specs.Prelude.{Bool, true, cond, ◌&&◌, List, [], ◌∷◌, ◌++◌, ℕ, zero, suc}
+use Rattle.std.specs.Prelude.{Some, None, Bool, true, cond, ◌&&◌, List, [], ◌∷◌, ◌++◌, ℕ, zero, suc}
 use Rattle.std.proofs.Math.Option.{Option, none, some, map}
-use Rattle.bits.specs.declared.BitRead.{BitRead}
-use Rattle.bits.specs.declared.BitRead.TheVariants.{Number, End}
-use Rattle.bits.specs.Reading.{read_at, exhausted_at}
+use Rattle.bits.specs.Reading.{BitRead, read_at, exhausted_at}
 use Rattle.records.specs.Format.{Format}
 
 -- ---- parse_type6_patches and parse_type7_patches: after a cut patch they go on reading flags from the bits left over
@@ -19,7 +17,7 @@ prepend x (cut q) = cut q
 
 unfoldable pub reads : List ℕ → ℕ → List ℕ → Reads
 reads s p [] = ok [] p
-reads s p (w ∷ ws) = elim (read_at s p w) [ End ↦ cut p | Number x q ↦ prepend x (reads s q.0 ws) ]
+reads s p (w ∷ ws) = elim (read_at s p w) [ None ↦ cut p | Some read ↦ prepend read.0 (reads s read.1.0 ws) ]
 
 -- a patch whose reads are all ok is pushed, flag first; else it is not; and the loop goes on either way: again started place
 unfoldable pub pushed : (Bool → ℕ → Option (List ℕ)) → Bool → ℕ → Reads → Option (List ℕ)
@@ -33,8 +31,8 @@ patch_round s again started flag p (some ws) = pushed again started flag (reads 
 
 -- so does the end
 unfoldable pub flagged : Format → List ℕ → (Bool → ℕ → Option (List ℕ)) → Bool → BitRead → Option (List ℕ)
-flagged F s again started End = some []
-flagged F s again started (Number flag q) = patch_round s again started flag q.0 (F.more started flag)
+flagged F s again started None = some []
+flagged F s again started (Some read) = patch_round s again started read.0 read.1.0 (F.more started read.0)
 
 -- the numbers of the patches that the loop pushes from place p on, where one was pushed before or not; none: it is not over in k rounds
 unfoldable pub loop : Format → List ℕ → ℕ → Bool → ℕ → Option (List ℕ)

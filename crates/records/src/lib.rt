@@ -2,5 +2,6 @@
 #![tactic(auto)]
 
 pub mod layout;
+pub mod mesh;
 pub mod raw;
 pub mod shape;

@@ -10,19 +10,17 @@ ghost use Rattle.records.specs.Raw.{raw_read};
 ghost use Rattle.records.specs.Inner.Walk.{format_of, Readable, Run, record_size, numbers_at, widths_after, FoundAt, Vertices, Counted};
 
 use crate::layout::widths_are_readable;
-use crate::shape::{Kind, Mesh, Shape, shape_of};
+use crate::mesh::Mesh;
+use crate::shape::{Kind, Shape};
 use answers::{Answer, Refusal};
-use bits::{BitPos, BitRead};
+use bits::BitPos;
 
-// What stands at a place: a complete record, with so many coordinates and components after its first number; or none, and the reading ends.
+// A complete record: so many coordinates and components after its first number, and the place after it.
 #[derive(Clone, Copy)]
-enum Found {
-    Record {
-        coords: usize,
-        comps: usize,
-        end: BitPos,
-    },
-    End,
+struct Record {
+    coords: usize,
+    comps: usize,
+    end: BitPos,
 }
 
 // How many bits a record takes, with so many coordinates and components after its first number.
@@ -34,7 +32,7 @@ fn record_size(mesh: Mesh, coords: usize, comps: usize) -> usize
 }
 
 // The flag of a record at a place. That of the first record goes by `bits::read_seldom`: with a second caller it stays out of the loops that read.
-fn read_flag(data: &[u8], at: BitPos, width: usize, started: bool) -> BitRead
+fn read_flag(data: &[u8], at: BitPos, width: usize, started: bool) -> Option<(u32, BitPos)>
     ensures { result ≡ read_at «data».now at.0 width }
 {
     if started {
@@ -43,28 +41,23 @@ fn read_flag(data: &[u8], at: BitPos, width: usize, started: bool) -> BitRead
     bits::read_seldom(data, at, width)
 }
 
-// Finds the record at a place from its first number.
-fn find_record(data: &[u8], mesh: Mesh, started: bool, at: BitPos) -> Found
+// Finds the record at a place from its first number; None where the reading ends.
+fn find_record(data: &[u8], mesh: Mesh, started: bool, at: BitPos) -> Option<Record>
     requires { Readable mesh × (length «data».now ≤ most_bytes) × (at.0 ≤ 8 * length «data».now) }
     ensures { FoundAt mesh «data».now started at.0 result }
 {
-    let BitRead::Number(lead, _) = read_flag(data, at, mesh.first, started) else {
-        return Found::End;
-    };
-    let kind = mesh.kind;
-    let Shape::Follows { coords, colours } = shape_of(kind, started, lead) else {
-        return Found::End;
-    };
+    let (lead, _) = read_flag(data, at, mesh.first, started)?;
+    let Shape { coords, colours } = mesh.kind.shape(started, lead)?;
     let comps = colours * mesh.n;
     let end = at.0 + record_size(mesh, coords, comps);
     if end > 8 * data.len() {
-        return Found::End; // not all of its bits exist
+        return None; // not all of its bits exist
     }
-    Found::Record {
+    Some(Record {
         coords,
         comps,
         end: BitPos(end),
-    }
+    })
 }
 
 // How many numbers the patches have, from their flags alone.
@@ -75,14 +68,12 @@ fn count_patches(data: &[u8], mesh: Mesh) -> usize
     let mut at = BitPos(0);
     let mut count: usize = 0;
     let mut started = false;
-    loop {
-        let Found::Record { coords, comps, end } = find_record(data, mesh, started, at) else {
-            return count;
-        };
-        count += 1 + coords + comps;
-        at = end;
+    while let Some(record) = find_record(data, mesh, started, at) {
+        count += 1 + record.coords + record.comps;
+        at = record.end;
         started = true;
     }
+    count
 }
 
 // How many numbers the vertices have that fit into the data, where so many coordinates follow a vertex's first number.
@@ -99,8 +90,7 @@ fn count_numbers(data: &[u8], mesh: Mesh) -> usize
     requires { Readable mesh × (length «data».now ≤ most_bytes) }
     ensures { result ≡ length (raw_reading (format_of mesh) «data».now) }
 {
-    let kind = mesh.kind;
-    match kind {
+    match mesh.kind {
         Kind::Four => count_vertices(data, mesh, 2),
         Kind::Five => count_vertices(data, mesh, 1),
         Kind::Six | Kind::Seven => count_patches(data, mesh),
@@ -123,7 +113,7 @@ fn write_run(
     let mut at = from;
     let mut k: usize = 0;
     while k < count {
-        let BitRead::Number(value, next) = bits::read(data, at, width) else {
+        let Some((value, next)) = bits::read(data, at, width) else {
             return at;
         };
         out[p + k] = value;
@@ -182,7 +172,7 @@ fn write_vertex(
     let mut at = from;
     let mut k: usize = 0;
     while k < size {
-        let BitRead::Number(value, next) = bits::read(data, at, width_at(mesh, coords, k)) else {
+        let Some((value, next)) = bits::read(data, at, width_at(mesh, coords, k)) else {
             return at;
         };
         out[p + k] = value;
@@ -212,14 +202,13 @@ fn write_patches(data: &[u8], mesh: Mesh, count: usize, out: &mut [u32]) -> usiz
     requires { Readable mesh × (length «data».now ≤ most_bytes) × (Counted mesh «data».now count out.old) }
     ensures { Written out.old out.new 0 (raw_reading (format_of mesh) «data».now) result }
 {
-    let kind = mesh.kind;
     let mut at = BitPos(0);
     let mut p: usize = 0;
     let mut started = false;
     while p < count {
         let after = write_run(data, at, mesh.first, 1, out, p);
         let flag = out[p];
-        let Shape::Follows { coords, colours } = shape_of(kind, started, flag) else {
+        let Some(Shape { coords, colours }) = mesh.kind.shape(started, flag) else {
             return p;
         };
         let comps = colours * mesh.n;
@@ -236,12 +225,10 @@ fn write_numbers(data: &[u8], mesh: Mesh, count: usize, out: &mut [u32]) -> usiz
     requires { Readable mesh × (length «data».now ≤ most_bytes) × (Counted mesh «data».now count out.old) }
     ensures { Written out.old out.new 0 (raw_reading (format_of mesh) «data».now) result }
 {
-    let kind = mesh.kind;
-    match kind {
+    match mesh.kind {
         Kind::Four => write_vertices(data, mesh, 2, count, out),
         Kind::Five => write_vertices(data, mesh, 1, count, out),
-        Kind::Six => write_patches(data, mesh, count, out),
-        Kind::Seven => write_patches(data, mesh, count, out),
+        Kind::Six | Kind::Seven => write_patches(data, mesh, count, out),
     }
 }
 
@@ -258,13 +245,13 @@ fn raw_read(
     ensures { Done (raw_read kind first coord comp n «data».now (length out.old)) out.old result out.new }
 {
     if !widths_are_readable(first, coord, comp) {
-        return Answer::Refused(Refusal::Layout);
+        return Err(Refusal::Layout);
     }
     if n > answers::MOST_COMPONENTS {
-        return Answer::Refused(Refusal::Components);
+        return Err(Refusal::Components);
     }
     if data.len() > answers::MOST_BYTES {
-        return Answer::Refused(Refusal::Length);
+        return Err(Refusal::Length);
     }
     let mesh = Mesh {
         kind,
@@ -275,9 +262,9 @@ fn raw_read(
     };
     let count = count_numbers(data, mesh);
     if out.len() < count {
-        return Answer::Refused(Refusal::Room(count));
+        return Err(Refusal::Room(count));
     }
-    Answer::Wrote(write_numbers(data, mesh, count, out))
+    Ok(write_numbers(data, mesh, count, out))
 }
 
 // Type 4: each vertex is a flag, x, y and the components.

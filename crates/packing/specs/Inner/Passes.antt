@@ -4,7 +4,7 @@ use Rattle.std.proofs.Math.Option.{Option, none, some}
 use Rattle.lists.specs.Lists.{AllBelow, flat}
 use Rattle.lists.specs.Writing.{Written}
 use Rattle.bits.specs.Bits.{bits_of, stream}
-use Rattle.records.specs.declared.shape.Mesh.{Mesh}
+use Rattle.records.specs.declared.mesh.Mesh.{Mesh}
 use Rattle.records.specs.Inner.Walk.{format_of, widths_after}
 use Rattle.packing.specs.declared.finding.Found.{Found}
 use Rattle.packing.specs.declared.finding.Found.TheVariants.{Record, End}

@@ -1,12 +1,11 @@
 -- What the raw readers' inner functions promise one another. Its first part serves the raw writers too.
-use Rattle.std.specs.Prelude.{◌≡◌, Bool, List, ◌∷◌, ◌++◌, ℕ, ◌+◌, ◌*◌, ◌≤◌, length, drop, replicate}
+use Rattle.std.specs.Prelude.{Option, Some, None, ◌≡◌, Bool, List, ◌∷◌, ◌++◌, ℕ, ◌+◌, ◌*◌, ◌≤◌, length, drop, replicate}
 use Rattle.std.proofs.Math.Option.{none, some}
 use Rattle.answers.specs.Limits.{most_components, most_bytes}
 use Rattle.bits.specs.Bits.{stream}
-use Rattle.records.specs.declared.shape.Mesh.{Mesh}
-use Rattle.records.specs.declared.raw.Found.{Found}
-use Rattle.records.specs.declared.raw.Found.TheVariants.{Record, End}
-use Rattle.records.specs.declared.shape.Shape.TheVariants.{Follows}
+use Rattle.records.specs.declared.mesh.Mesh.{Mesh}
+use Rattle.records.specs.declared.raw.Record.{Record}
+use Rattle.records.specs.Following.{follows}
 use Rattle.records.specs.Format.{Format, format, shape_of, numbers, next, raw_reading}
 
 -- ---- a mesh and its records
@@ -54,13 +53,13 @@ pub record Standing (m : Mesh) (s : List ℕ) (started : Bool) (p coords comps e
   pub comps_few : comps ≤ 128
 
 -- the record that stands at bit p, or that the reading ends there
-abbrev pub FoundAt : Mesh → List ℕ → Bool → ℕ → Found → Type 0
-FoundAt m s started p (Record coords comps end) = Standing m s started p coords comps end.0
-FoundAt m s started p End = next (format_of m) started (drop p (stream s)) ≡ none
+abbrev pub FoundAt : Mesh → List ℕ → Bool → ℕ → Option Record → Type 0
+FoundAt m s started p (Some found) = Standing m s started p found.coords found.comps found.end.0
+FoundAt m s started p None = next (format_of m) started (drop p (stream s)) ≡ none
 
 -- every record is a vertex: so many coordinates and one colour follow its first number
 pub record Vertices (m : Mesh) (coords : ℕ) : Type 0 where
-  pub shape : (started : Bool) (x : ℕ) → shape_of m.kind started x ≡ Follows coords 1
+  pub shape : (started : Bool) (x : ℕ) → shape_of m.kind started x ≡ follows coords 1
 
 -- the whole reading has so many numbers, and the output has room for them
 pub record Counted (m : Mesh) (s : List ℕ) (count : ℕ) (out : List ℕ) : Type 0 where

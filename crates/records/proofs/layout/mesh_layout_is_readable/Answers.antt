@@ -4,8 +4,8 @@ use Rattle.records.proofs.layout.mesh_layout_is_readable.Goals as goal
 
 pub returns-then-widths_are_readable : goal.returns-then-widths_are_readable
 unfolding layout_readable
-returns-then-widths_are_readable c = rw (← c.first_width.ensures, ← c.widths_are_readable.ensures, c.if-widths_are_readable.true)
+returns-then-widths_are_readable c = rw (← c.unwrap_or.ensures, ← c.widths_are_readable.ensures, c.if-widths_are_readable.true)
 
 pub returns-else-widths_are_readable : goal.returns-else-widths_are_readable
 unfolding layout_readable
-returns-else-widths_are_readable c = rw (← c.first_width.ensures, ← c.widths_are_readable.ensures, c.if-widths_are_readable.false)
+returns-else-widths_are_readable c = rw (← c.unwrap_or.ensures, ← c.widths_are_readable.ensures, c.if-widths_are_readable.false)

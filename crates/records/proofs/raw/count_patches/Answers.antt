@@ -2,11 +2,11 @@
 use Rattle.records.proofs.Walks.{count_start, count_end, count_step}
 use Rattle.records.proofs.raw.count_patches.Goals as goal
 
-pub loop-coords-init : goal.loop-coords-init
-loop-coords-init c = count_start _ _
+pub loop-record-init : goal.loop-record-init
+loop-record-init c = count_start _ _
 
-pub returns-in_default : goal.returns-in_default
-returns-in_default c = count_end c.loop-coords.invariant c.in_default.ensures
+pub returns : goal.returns
+returns c = count_end c.loop-record.invariant c.in_default.ensures
 
-pub loop-coords-preserved : goal.loop-coords-preserved
-loop-coords-preserved c = count_step c.loop-coords.invariant c.requires.0 c.in-Record.ensures
+pub loop-record-preserved : goal.loop-record-preserved
+loop-record-preserved c = count_step c.loop-record.invariant c.requires.0 c.in-Some.ensures

@@ -4,8 +4,8 @@ use lib.ListN.{length}
 use Rattle.records.proofs.Walks.{Counting}
 use Rattle.records.proofs.raw.count_patches.Given as goal
 
-abbrev pub invariant-loop-coords : goal.invariant-loop-coords
-invariant-loop-coords l = Counting l.mesh l.data l.count l.at.0 l.started
+abbrev pub invariant-loop-record : goal.invariant-loop-record
+invariant-loop-record l = Counting l.mesh l.data l.count l.at.0 l.started
 
-abbrev pub decreases-loop-coords : goal.decreases-loop-coords
-decreases-loop-coords l = 8 * length l.data - l.at.0
+abbrev pub decreases-loop-record : goal.decreases-loop-record
+decreases-loop-record l = 8 * length l.data - l.at.0

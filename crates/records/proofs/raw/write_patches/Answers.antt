@@ -19,13 +19,13 @@ pub write_rest-at-requires : goal.write_rest-at-requires
 write_rest-at-requires c =
     let w = c.loop-p.invariant in
     let f = c.write_run-after.ensures in
-    let t = patch_turn w c.loop-p-test.true f.written (c.in-Follows.ensures) in
+    let t = patch_turn w c.loop-p-test.true f.written (c.in-Some.ensures) in
     rest_there w t f.result_value f.written
 
 pub loop-p-preserved : goal.loop-p-preserved
 loop-p-preserved c =
     let w = c.loop-p.invariant in
     let f = c.write_run-after.ensures in
-    let t = patch_turn w c.loop-p-test.true f.written (c.in-Follows.ensures) in
+    let t = patch_turn w c.loop-p-test.true f.written (c.in-Some.ensures) in
     let g = c.write_rest-at.ensures in
     patch_done w t f.result_value f.written g.result_value g.written

@@ -16,8 +16,8 @@ returns-in_default c =
 
 pub loop-k-preserved : goal.loop-k-preserved
 loop-k-preserved c =
-    upto_step c.loop-k.invariant c.loop-k-test.true (sym (get_or-replicate _ _ _ 0 c.loop-k-test.true)) c.in-Number.value c.in-Number.next
-    c.in-Number.ensures
+    upto_step c.loop-k.invariant c.loop-k-test.true (sym (get_or-replicate _ _ _ 0 c.loop-k-test.true)) c.in-Some.value c.in-Some.next
+    c.in-Some.ensures
 
 pub returns-clause-result_value : goal.returns-clause-result_value
 returns-clause-result_value c = let e = upto_end c.loop-k.invariant c.loop-k-test.false in rw sum-replicate at e.0

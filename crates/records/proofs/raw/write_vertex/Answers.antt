@@ -18,8 +18,8 @@ returns-in_default c =
 
 pub loop-k-preserved : goal.loop-k-preserved
 loop-k-preserved c =
-    upto_step c.loop-k.invariant c.loop-k-test.true c.width_at.ensures c.in-Number.value c.in-Number.next
-    c.in-Number.ensures
+    upto_step c.loop-k.invariant c.loop-k-test.true c.width_at.ensures c.in-Some.value c.in-Some.next
+    c.in-Some.ensures
 
 pub returns-clause-result_value : goal.returns-clause-result_value
 unfolding sum
