@@ -2,3 +2,4 @@ pub mod Digits
 pub mod Streams
 pub mod Gathering
 pub mod Answers
+pub mod Widths

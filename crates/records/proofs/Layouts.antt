@@ -1,30 +1,16 @@
 -- What the layout test says of the widths. Assumes nothing.
-use Prim.Native.Nat.{ℕ, ◌≤◌}
-use mathlib.Core.Path.{◌≡◌, refl}
-use mathlib.Core.Bool.{Bool, true, false, ◌&&◌}
+use Prim.Native.Nat.{ℕ}
+use mathlib.Core.Path.{◌≡◌}
+use mathlib.Core.Bool.{true, ◌&&◌}
 use mathlib.Core.List.{◌∷◌, ◌++◌}
-use native.Mathlib.Omega.{arith}
-use borrow.Author.Tests.{leb-true}
 use lib.Dec.{leb}
 use lib.ListN.{replicate}
 use Rattle.lists.specs.Lists.{All}
 use Rattle.lists.proofs.Members.{all_append, all_replicate}
 use Rattle.bits.specs.Reading.{readable}
+use Rattle.bits.proofs.Widths.{both_true, Width, width_readable}
 use Rattle.std.specs.Prelude.{Option}
 use Rattle.records.specs.Layout.{first_width, widths_readable, layout_readable}
-
-both_true : (a b : Bool) → a && b ≡ true → (a ≡ true) × (b ≡ true)
-both_true true b e = (refl, e)
-both_true false b e = let z : ◌≡◌ {A = ℕ} 0 1 = cc in absurd (omega arith)
-
-pub record Width (w : ℕ) : Type 0 where
-  pub some_bits : 1 ≤ w
-  pub few_bits : w ≤ 32
-
-pub width_readable : (w : ℕ) → readable w ≡ true → Width w
-width_readable w e =
-    let t = both_true (leb 1 w) (leb w 32) e in
-    record { some_bits = leb-true 1 w t.0; few_bits = leb-true w 32 t.1 }
 
 pub record Widths (first coord comp : ℕ) : Type 0 where
   pub of_first : Width first

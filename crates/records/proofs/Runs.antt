@@ -20,7 +20,8 @@ use Rattle.bits.proofs.Answers.{found, ended}
 use Rattle.records.specs.declared.mesh.Mesh.{Mesh}
 use Rattle.records.specs.Format.{sum, numbers}
 use Rattle.records.specs.Inner.Walk.{Readable, Run, numbers_at, widths_after, record_size}
-use Rattle.records.proofs.Layouts.{Width, record_widths}
+use Rattle.bits.proofs.Widths.{Width}
+use Rattle.records.proofs.Layouts.{record_widths}
 use Rattle.records.proofs.Readings.{sum-append, sum-replicate, numbers_then}
 use Rattle.records.proofs.Finding.{sum-after, length-after}
 

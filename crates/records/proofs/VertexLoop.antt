@@ -22,7 +22,8 @@ use Rattle.records.specs.Following.{follows}
 use Rattle.records.specs.Layout.{widths_readable}
 use Rattle.records.specs.Format.{sum, numbers, Format, shape_of, format, readings, raw_reading}
 use Rattle.records.specs.Loop.{ok, cut, prepend, reads, kept_vertex, vertex_loop}
-use Rattle.records.proofs.Layouts.{Width, widths_readable_lem, record_widths}
+use Rattle.bits.proofs.Widths.{Width}
+use Rattle.records.proofs.Layouts.{widths_readable_lem, record_widths}
 use Rattle.records.proofs.Readings.{length_from, readings_none, readings_some, readings_enough}
 use Rattle.records.proofs.Counts.{same_next, same_none, vertex_more}
 

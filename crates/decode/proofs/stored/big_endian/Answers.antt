@@ -1,45 +1,34 @@
--- `decode::stored::big_endian` meets its contract: after i bytes the number is theirs, and below 256 ^ i. Assumes nothing.
-use Rattle.std.proofs.Common.{◌≡◌, ◌+◌, ◌<◌, get_or, sym, refl, ◌∙◌, arith, rules}
+-- `decode::stored::big_endian` meets its contract: after some bytes the number is theirs. Assumes nothing.
+use Rattle.std.proofs.Common.{◌≡◌, ℕ, ◌+◌, ◌*◌, length, sym, refl, ap, ◌∙◌, arith, zero-add}
 use Rattle.decode.specs.Stored.{big_endian}
-use Rattle.decode.proofs.BigEndian.{big_endian-more, no_bytes, byte_more, byte_fits, number_too_long, number_cut, number_there}
-use borrow.Author.Rules.{rules}
+use Rattle.decode.proofs.BigEndian.{big_endian-more, no_bytes, byte_more, byte_fits, number_too_long, number_there}
 use Rattle.decode.proofs.stored.big_endian.Goals as goal
 
-pub returns-then-k-gt8 : goal.returns-then-k-gt8
-returns-then-k-gt8 c = (number_too_long _ _ _ c.if-k-gt8.true, no_bytes _)
+pub returns-then-bytes-gt8-clause-value : goal.returns-then-bytes-gt8-clause-value
+returns-then-bytes-gt8-clause-value c = number_too_long _ c.if-bytes-gt8.true
 
-pub returns-then-bytes-k : goal.returns-then-bytes-k
-returns-then-bytes-k c = (number_cut _ _ _ c.if-k-gt8.false (omega arith), no_bytes _)
+pub returns-then-bytes-gt8-clause-below : goal.returns-then-bytes-gt8-clause-below
+returns-then-bytes-gt8-clause-below c = no_bytes _
 
-pub returns-then-bytes-k-2 : goal.returns-then-bytes-k-2
-returns-then-bytes-k-2 c = (number_cut _ _ _ c.if-k-gt8.false (omega arith), no_bytes _)
-
-pub loop-i-init : goal.loop-i-init
+pub loop-byte-init : goal.loop-byte-init
 unfolding big_endian
-loop-i-init c = (search rules, refl, omega arith)
+loop-byte-init c = record { number = refl; below = omega arith }
 
 pub overflow_mul-number : goal.overflow_mul-number
 overflow_mul-number c =
-    let l = c.loop-i in
-    record { fits = omega (arith, byte_fits {b = 0} l.i l.invariant.2 (omega arith) (omega arith)) }
+    let l = c.loop-byte in
+    record { fits = omega (arith, byte_fits {b = 0} l.byte-index l.invariant.below (omega arith) (omega arith)) }
 
-pub overflow_add-number-in-loop-i : goal.overflow_add-number-in-loop-i
-overflow_add-number-in-loop-i c =
-    let l = c.loop-i in
-    let a = c.args in
-    let a_byte : get_or a.bytes.now (a.at + l.i) 0 < 256 = omega (arith, c.type_inv.bytes (a.at + l.i)) in
-    record { fits = omega (arith, byte_fits l.i l.invariant.2 a_byte (omega arith)) }
+pub loop-byte-preserved : goal.loop-byte-preserved
+loop-byte-preserved c =
+    let l = c.loop-byte in
+    record {
+      number = rw (big_endian-more c.args.bytes.now 0 l.byte-index, ← l.invariant.number, zero-add) (ap (λ (b : ℕ). 256 * l.number + b) c.from.ensures);
+      below = byte_more l.byte-index l.invariant.below (omega (arith, c.from.ensures, c.type_inv.bytes l.byte-index));
+    }
 
-pub loop-i-preserved : goal.loop-i-preserved
-loop-i-preserved c =
-    let l = c.loop-i in
-    let a = c.args in
-    let a_byte : get_or a.bytes.now (a.at + l.i) 0 < 256 = omega (arith, c.type_inv.bytes (a.at + l.i)) in
-    (search rules, rw (big_endian-more a.bytes.now a.at l.i, ← l.invariant.1), byte_more l.i l.invariant.2 a_byte)
-
-pub returns : goal.returns
-returns c =
-    let l = c.loop-i in
-    let a = c.args in
-    let e : l.i ≡ a.k = omega arith in
-    (rw e at l.invariant.1 ∙ sym (number_there a.bytes.now a.at a.k c.if-k-gt8.false (omega arith)), rw e at l.invariant.2)
+pub returns-clause-value : goal.returns-clause-value
+returns-clause-value c =
+    let l = c.loop-byte in
+    let e : l.byte-index ≡ length c.args.bytes.now = omega arith in
+    rw e at l.invariant.number ∙ sym (number_there c.args.bytes.now c.if-bytes-gt8.false)

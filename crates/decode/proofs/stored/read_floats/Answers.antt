@@ -1,38 +1,21 @@
 -- `decode::stored::read_floats` meets its contract: after i turns the output begins with the first i floats. Assumes nothing.
-use Rattle.std.proofs.Common.{◌≡◌, ◌+◌, ◌*◌, refl, ap, ◌∙◌, arith, length-set}
+use Rattle.std.proofs.Common.{◌+◌, ◌*◌, ap, ◌∙◌, arith}
 use lib.Ieee.{binary64, of_bits}
 use Rattle.lists.proofs.Writing.{written_start, written_store}
 use Rattle.decode.specs.Stored.{floats_at}
-use Rattle.decode.proofs.BigEndian.{number_there, floats_cut, floats_crowded, floats_held}
+use Rattle.decode.proofs.BigEndian.{part_there, floats_held}
 use Rattle.decode.proofs.stored.read_floats.Goals as goal
-
-pub returns-then-bytes-k : goal.returns-then-bytes-k
-returns-then-bytes-k c = floats_cut _ _ _ _ (omega arith)
-
-pub returns-then-bytes-k-2 : goal.returns-then-bytes-k-2
-returns-then-bytes-k-2 c = floats_cut _ _ _ _ (omega arith)
-
-pub returns-then-out-k : goal.returns-then-out-k
-returns-then-out-k c = floats_crowded _ _ _ _ (omega arith) c.if-out-k.true
 
 pub loop-i-init : goal.loop-i-init
 unfolding floats_at
-loop-i-init c = (omega arith, refl, written_start _ _ _ (omega arith))
+loop-i-init c = written_start _ _ _ (omega arith)
 
 pub loop-i-preserved : goal.loop-i-preserved
 unfolding floats_at
 loop-i-preserved c =
     let l = c.loop-i in
-    let a = c.args in (
-      omega arith,
-      simp length-set l.invariant.1,
-      written_store l.i _ l.invariant.2 (omega arith)
-          (c.float_of.ensures ∙ ap (of_bits binary64) (c.big_endian.ensures.0 ∙ number_there a.bytes.now (a.at + 8 * l.i) 8 (omega arith) (omega arith))),
-    )
+    written_store l.i _ l.invariant (omega arith)
+    (c.float_of.ensures ∙ ap (of_bits binary64) (c.big_endian.ensures.value ∙ part_there c.args.bytes.now _ _ (0 + 8 * l.i) 8 (omega arith) (omega arith) (omega arith) (omega arith)))
 
 pub returns : goal.returns
-returns c =
-    let l = c.loop-i in
-    let a = c.args in
-    let e : l.i ≡ a.k = omega arith in
-    floats_held a.bytes.now a.at a.k a.out.now (omega arith) (omega arith) (rw e at l.invariant.2)
+returns c = floats_held _ _ (omega arith) c.loop-i.invariant
