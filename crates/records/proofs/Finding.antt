@@ -3,16 +3,15 @@ use Prim.Native.Nat.{ℕ, ◌+◌, ◌*◌, ◌≤◌, ◌<◌}
 use mathlib.Core.Path.{◌≡◌, sym, ◌∙◌}
 use mathlib.Core.Bool.{Bool}
 use mathlib.Core.List.{List}
-use mathlib.Core.Option.{none, some-injective, none-ne-some}
+use mathlib.Core.Option.{some, none, some-injective, none-ne-some}
 use native.Mathlib.Omega.{arith}
 use lib.ListN.{length, take, drop, replicate, length-append, length-replicate}
 use Rattle.bits.specs.Bits.{number, stream, field_at}
 use Rattle.records.specs.Following.{Following, follows, ends}
 use Rattle.records.specs.declared.mesh.Mesh.{Mesh}
 use Rattle.records.specs.Format.{sum, shape_of, widths_of, next}
-use Rattle.records.specs.Inner.Walk.{format_of, widths_after, record_size, Standing}
+use Rattle.records.specs.Inner.Walk.{format_of, widths_after, Follow, record_size, Standing}
 use Rattle.records.proofs.Readings.{length_from, sum-append, sum-replicate, next_none, next_fits}
-use Rattle.records.proofs.Shapes.{Small}
 
 -- ---- what follows a record's first number
 
@@ -40,24 +39,27 @@ module _ (m : Mesh) (s : List ℕ) (started : Bool) (p : ℕ) (within : p ≤ 8 
     mesh_ends e =
         next_none (format_of m) started (drop p (stream s)) (λ ws q. absurd (none-ne-some ws (sym (more_is e) ∙ q)))
 
-    module _ {coords colours : ℕ} (e : follows coords colours ≡ shape_of m.kind started lead) where
-      pub record_cut : 8 * length s < p + record_size m coords (colours * m.n)
-          → next (format_of m) started (drop p (stream s)) ≡ none
+    module _ {coords comps : ℕ} (e : Follow m started lead coords comps) where
+      widths_is : widths_of m.coord m.comp m.n (follows coords e.colours) ≡ some (widths_after m coords comps)
+      widths_is = rw (← e.comps_are)
+
+      more_rest : (format_of m).more started (number (take m.first (drop p (stream s)))) ≡ some (widths_after m coords comps)
+      more_rest = more_is (sym e.shape) ∙ widths_is
+
+      pub record_cut : 8 * length s < p + record_size m coords comps → next (format_of m) started (drop p (stream s)) ≡ none
       record_cut h =
           next_none (format_of m) started (drop p (stream s))
           (λ ws q.
-          let same : widths_after m coords (colours * m.n) ≡ ws = some-injective _ _ (sym (more_is e) ∙ q) in
-          rw (← same) (omega (arith, length_from s p within, sum-after m coords (colours * m.n))))
+          let same : widths_after m coords comps ≡ ws = some-injective _ _ (sym more_rest ∙ q) in
+          rw (← same) (omega (arith, length_from s p within, sum-after m coords comps)))
 
-      pub record_stands : (end : ℕ) → Small m coords colours → end ≡ p + record_size m coords (colours * m.n)
-          → end ≤ 8 * length s → Standing m s started p coords (colours * m.n) end
-      record_stands end r b h =
+      pub record_stands : (end : ℕ) → end ≡ p + record_size m coords comps → end ≤ 8 * length s
+          → Standing m s started p coords comps end
+      record_stands end b h =
           record {
             widths =
-                next_fits (format_of m) started (drop p (stream s)) (widths_after m coords (colours * m.n)) (more_is e)
-                (omega (arith, length_from s p within, sum-after m coords (colours * m.n)));
+                next_fits (format_of m) started (drop p (stream s)) (widths_after m coords comps) more_rest
+                (omega (arith, length_from s p within, sum-after m coords comps));
             ends = b;
             whole = h;
-            coords_few = r.coords_few;
-            comps_few = r.comps_few;
           }

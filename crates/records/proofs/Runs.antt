@@ -19,7 +19,7 @@ use Rattle.bits.specs.Reading.{read_at}
 use Rattle.bits.proofs.Answers.{found, ended}
 use Rattle.records.specs.declared.mesh.Mesh.{Mesh}
 use Rattle.records.specs.Format.{sum, numbers}
-use Rattle.records.specs.Inner.Walk.{Readable, Run, numbers_at, widths_after, record_size}
+use Rattle.records.specs.Inner.Walk.{Run, numbers_at, widths_after, record_size}
 use Rattle.bits.proofs.Widths.{Width}
 use Rattle.records.proofs.Layouts.{record_widths}
 use Rattle.records.proofs.Readings.{sum-append, sum-replicate, numbers_then}
@@ -112,13 +112,13 @@ module _ {s : List ℕ} {p : ℕ} {ws : List ℕ} {count : ℕ} {l o : List ℕ}
 
 -- ---- a run of one width
 
-pub run_there : {s : List ℕ} {p width count : ℕ} → Run s p width count → There s p (replicate count width) count
-run_there {s} {p} {width} {count} r =
+pub run_there : {s : List ℕ} {p width count : ℕ} → Run s p width count → length s ≤ most_bytes → There s p (replicate count width) count
+run_there {s} {p} {width} {count} r h =
     record {
       sized = length-replicate count width;
       widths = all_replicate Width count width (record { some_bits = r.some_bits; few_bits = r.few_bits });
       whole = rw sum-replicate r.whole;
-      short = r.short;
+      short = h;
     }
 
 -- a run of one number can be read back
@@ -130,18 +130,18 @@ run_of_one s p width {l} {o} {q} {r} w =
 
 -- ---- a record: its first number, its coordinates, its components
 
-pub record_there : {m : Mesh} {s : List ℕ} (p coords comps : ℕ) → Readable m → length s ≤ most_bytes
+pub record_there : (m : Mesh) {s : List ℕ} (p coords comps : ℕ) → length s ≤ most_bytes
     → p + record_size m coords comps ≤ 8 * length s → There s p (m.first ∷ widths_after m coords comps) (1 + coords + comps)
 unfolding sum
-record_there {m} p coords comps r short h =
+record_there m p coords comps short h =
     record {
       sized = omega (arith, length-after m coords comps);
       widths =
           record_widths coords comps
           (record {
-            of_first = record { some_bits = r.first_some; few_bits = r.first_few };
-            of_coord = record { some_bits = r.coord_some; few_bits = r.coord_few };
-            of_comp = record { some_bits = r.comp_some; few_bits = r.comp_few };
+            of_first = record { some_bits = m.first_some; few_bits = m.first_few };
+            of_coord = record { some_bits = m.coord_some; few_bits = m.coord_few };
+            of_comp = record { some_bits = m.comp_some; few_bits = m.comp_few };
           });
       whole = omega (arith, sum-after m coords comps);
       short = short;

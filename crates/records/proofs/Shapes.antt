@@ -12,7 +12,6 @@ use Rattle.records.specs.declared.mesh.Mesh.{Mesh}
 use Rattle.std.specs.Prelude.{Some, None}
 use Rattle.records.specs.Following.{Following, follows, ends}
 use Rattle.records.specs.Format.{patch_shape, shape_of}
-use Rattle.records.specs.Inner.Walk.{Readable}
 
 -- what holds of a first patch, of a joined one and of the end holds of every patch
 pub every_patch : (P : Following → Type 0) (own : ℕ) (started : Bool) (x : ℕ) → P (follows (2 * (4 + own)) 4) → P (follows (2 * own) 2) → P ends
@@ -55,8 +54,8 @@ pub record Small (m : Mesh) (coords colours : ℕ) : Type 0 where
   pub coords_few : coords ≤ 32
   pub comps_few : colours * m.n ≤ 128
 
-pub small : {m : Mesh} (started : Bool) (x : ℕ) {coords colours : ℕ} → Readable m → follows coords colours ≡ shape_of m.kind started x
+pub small : (m : Mesh) (started : Bool) (x : ℕ) {coords colours : ℕ} → follows coords colours ≡ shape_of m.kind started x
     → Small m coords colours
-small {m} started x {coords} {colours} r e =
+small m started x {coords} {colours} e =
     let f : Few (follows coords colours) = subst Few (sym e) (few_shape m.kind started x) in
-    record { coords_few = f.0; comps_few = mul-le-mul f.1 r.n_few }
+    record { coords_few = f.0; comps_few = mul-le-mul f.1 m.n_few }

@@ -3,5 +3,7 @@
 
 pub mod layout;
 pub mod mesh;
+mod meshes;
 pub mod raw;
 pub mod shape;
+mod stream;

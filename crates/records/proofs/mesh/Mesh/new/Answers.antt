@@ -1,0 +1,27 @@
+-- `Mesh::new` meets its contract: the tests of LAYOUT and COMPONENTS, one after the other. Assumes nothing.
+use Rattle.std.proofs.Common.{sym, ◌∙◌, lt-ltb}
+use Rattle.records.specs.Inner.Walk.{tested}
+use Rattle.records.proofs.Layouts.{widths_readable_lem}
+use Rattle.records.proofs.mesh.Mesh.new.Goals as goal
+
+pub returns-then-not-widths_are_readable : goal.returns-then-not-widths_are_readable
+unfolding tested
+returns-then-not-widths_are_readable c = rw (← c.widths_are_readable.ensures, c.if-not-widths_are_readable.true)
+
+pub returns-then-n-gt-MOST_COMPONENTS : goal.returns-then-n-gt-MOST_COMPONENTS
+unfolding tested
+returns-then-n-gt-MOST_COMPONENTS c =
+    rw (← c.widths_are_readable.ensures, c.if-not-widths_are_readable.false, lt-ltb _ _ c.if-n-gt-MOST_COMPONENTS.true)
+
+pub invariant_of-result : goal.invariant_of-result
+invariant_of-result c =
+    let w = widths_readable_lem _ _ _ (sym c.widths_are_readable.ensures ∙ c.if-not-widths_are_readable.false) in
+    record {
+      first_some = w.of_first.some_bits;
+      first_few = w.of_first.few_bits;
+      coord_some = w.of_coord.some_bits;
+      coord_few = w.of_coord.few_bits;
+      comp_some = w.of_comp.some_bits;
+      comp_few = w.of_comp.few_bits;
+      n_few = c.if-n-gt-MOST_COMPONENTS.false;
+    }
