@@ -9,25 +9,24 @@ use lib.ListN.{length}
 use Rattle.lists.specs.Writing.{Written}
 use Rattle.lists.proofs.Writing.{written_then}
 use Rattle.answers.specs.declared.Refusal.TheVariants.{Room, Record}
-use Rattle.std.specs.Prelude.{Ok, Err}
+use Rattle.std.specs.Prelude.{Ok, Err, Some, None}
 use Rattle.answers.specs.Outcome.{Done}
 use Rattle.answers.proofs.Outcomes.{was_refused, no_room, all_written}
 use Rattle.bits.specs.Bits.{bits_of}
 use Rattle.packing.specs.declared.put.Waiting.{Waiting}
-use Rattle.packing.specs.declared.measure.Measured.TheVariants.{Bits, Unfit}
 use Rattle.packing.specs.Packed.{byte_count, bytes}
 use Rattle.packing.specs.Writer.{in_bytes}
-use Rattle.packing.specs.Inner.Passes.{measure_of, Roomy, Put}
+use Rattle.packing.specs.Inner.Passes.{measure_of, Roomy, Filled, Put}
 use Rattle.packing.proofs.Filling.{length-bytes, bytes_after}
 
 -- ---- what the first pass found
 
-pub measured_unfit : (o : Option (List ℕ)) → Unfit ≡ measure_of o → o ≡ none
+pub measured_unfit : (o : Option (List ℕ)) → measure_of o ≡ None → o ≡ none
 unfolding measure_of
 measured_unfit none e = refl
 measured_unfit (some bits) e = cc
 
-pub measured_bits : (o : Option (List ℕ)) (total : ℕ) → Bits total ≡ measure_of o → (bits : List ℕ) × (o ≡ some bits) × (length bits ≡ total)
+pub measured_bits : (o : Option (List ℕ)) (total : ℕ) → measure_of o ≡ Some total → (bits : List ℕ) × (o ≡ some bits) × (length bits ≡ total)
 unfolding measure_of
 measured_bits none total e = absurd (let z : ◌≡◌ {A = ℕ} 0 1 = cc in omega arith)
 measured_bits (some bits) total e = (bits, refl, cc)
@@ -54,9 +53,14 @@ module _ (o : Option (List ℕ)) where
     room_is room h = subst (λ (x : Option (List ℕ)). Roomy x room) e h
 
     pub all_put : {entry mid exit : List ℕ} (w : Waiting) (p : ℕ) → Put (record { at = 0; count = 0; bits = 0 }) w entry mid bits
-        → Written mid exit w.at (bytes (bits_of w.count w.bits)) p → Done (in_bytes o (length entry)) entry (Ok p) exit
-    unfolding in_bytes bits_of
+        → Written mid exit w.at (bytes (bits_of w.count w.bits)) p → Filled o entry exit p
+    unfolding Filled bits_of
     all_put {entry} {mid} {exit} w p f g =
         let same : bytes bits ≡ f.bytes ++ bytes (bits_of w.count w.bits) = ap bytes (sym f.same) ∙ bytes_after f.bytes (bits_of w.count w.bits) f.clean in
-        let all : Written entry exit 0 (bytes bits) p = rw same (written_then f.written g) in
+        rw (e, same) (written_then f.written g)
+
+    pub filled : {entry exit : List ℕ} {p : ℕ} → Filled o entry exit p → Done (in_bytes o (length entry)) entry (Ok p) exit
+    unfolding Filled in_bytes
+    filled {entry} {exit} {p} f =
+        let all : Written entry exit 0 (bytes bits) p = rw e at f in
         rw e (all_written (all.after ∙ zero-add (length (bytes bits))) all)

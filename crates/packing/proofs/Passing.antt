@@ -7,15 +7,17 @@ use Prim.Native.Nat.{ℕ, ◌+◌, ◌*◌, ◌≤◌, ◌<◌}
 use native.Mathlib.Omega.{arith}
 use lib.Dec.{ltb}
 use borrow.Author.Tests.{lt-ltb}
-use lib.ListN.{length, drop, length-append}
+use lib.ListN.{length, get_or, drop, length-append}
 use lib.Seq.{drop-length}
 use Rattle.bits.proofs.Digits.{length-bits}
 use Rattle.records.specs.declared.mesh.Mesh.{Mesh}
-use Rattle.packing.specs.declared.finding.Found.TheVariants.{Record, End}
+use Rattle.records.specs.Following.{ends}
+use Rattle.records.specs.Format.{shape_of}
+use Rattle.records.proofs.Finding.{follow_more, end_more}
 use Rattle.packing.specs.Packed.{prefixed, packed}
-use Rattle.records.specs.Inner.Walk.{format_of, record_size}
-use Rattle.packing.specs.Inner.Passes.{FoundIn, record_fits, record_bits, Roomy}
-use Rattle.packing.proofs.Runs.{length-run_bits}
+use Rattle.records.specs.Inner.Walk.{format_of, Follow, record_size}
+use Rattle.packing.specs.Inner.Passes.{record_fits, record_bits, Roomy}
+use Rattle.packing.proofs.Runs.{length_run, length-run_bits}
 use Rattle.packing.proofs.Records.{prefixed_nothing, prefixed_twice, guarded, packed_ends, packed_record}
 
 -- the records before index i are whole, and have the bits b
@@ -31,8 +33,8 @@ reached_end m xs b i r e =
     r ∙ ap (λ (l : List ℕ). prefixed b (packed (format_of m) (ltb 0 i) [] l)) (ap (λ (k : ℕ). drop k xs) e ∙ drop-length xs) ∙ ap some (append-nil b)
 
 -- the list has a flag at which the mesh ends
-pub reached_flag : (m : Mesh) (xs b : List ℕ) (i : ℕ) → Reached m xs i b → i < length xs → FoundIn m xs i End → packed (format_of m) false [] xs ≡ none
-reached_flag m xs b i r h e = r ∙ ap (prefixed b) (packed_ends (format_of m) (ltb 0 i) xs i h e)
+pub reached_flag : (m : Mesh) (xs b : List ℕ) (i : ℕ) → Reached m xs i b → i < length xs → shape_of m.kind (ltb 0 i) (get_or xs i 0) ≡ ends → packed (format_of m) false [] xs ≡ none
+reached_flag m xs b i r h e = r ∙ ap (prefixed b) (packed_ends (format_of m) (ltb 0 i) xs i h (end_more m (ltb 0 i) (get_or xs i 0) e))
 
 -- where bits have room together, so have the first of them
 room_for : (t : Bool) (a b : List ℕ) (o : Option (List ℕ)) (room : ℕ) → Roomy (prefixed a (guarded t b o)) room
@@ -42,7 +44,7 @@ room_for true a b none room q = absurd q
 room_for true a b (some r) room q = (refl, omega (arith, q, length-append a (b ++ r), length-append b r))
 room_for false a b o room q = absurd q
 
-module _ (m : Mesh) (xs b : List ℕ) (i coords comps : ℕ) (r : Reached m xs i b) (h : i < length xs) (e : FoundIn m xs i (Record coords comps)) where
+module _ (m : Mesh) (xs b : List ℕ) (i coords comps : ℕ) (r : Reached m xs i b) (h : i < length xs) (e : Follow m (ltb 0 i) (get_or xs i 0) coords comps) where
   abbrev next : ℕ
   next = i + (1 + coords + comps)
 
@@ -51,7 +53,7 @@ module _ (m : Mesh) (xs b : List ℕ) (i coords comps : ℕ) (r : Reached m xs i
 
   -- what the list comes to with the record
   reached_record : packed (format_of m) false [] xs ≡ prefixed b (guarded (record_fits m coords comps xs i) (record_bits m coords comps xs i) rest)
-  reached_record = r ∙ ap (prefixed b) (packed_record m (ltb 0 i) coords comps xs i h e.0)
+  reached_record = r ∙ ap (prefixed b) (packed_record m (ltb 0 i) coords comps xs i h (follow_more e))
 
   pub reached_unfit : record_fits m coords comps xs i ≡ false → packed (format_of m) false [] xs ≡ none
   reached_unfit f = rw f at reached_record
@@ -71,4 +73,4 @@ module _ (m : Mesh) (xs b : List ℕ) (i coords comps : ℕ) (r : Reached m xs i
 pub length_record : (m : Mesh) (coords comps : ℕ) (xs : List ℕ) (i : ℕ) → i + (1 + coords + comps) ≤ length xs
     → length (record_bits m coords comps xs i) ≡ record_size m coords comps
 length_record m coords comps xs i h =
-    simp (length-append, length-bits, length-run_bits m.coord xs (i + 1) coords (omega arith), length-run_bits m.comp xs (i + 1 + coords) comps (omega arith)) (omega arith)
+    simp (length-append, length-bits, length-run_bits, length_run xs (i + 1) coords (omega arith), length_run xs (i + 1 + coords) comps (omega arith)) (omega arith)

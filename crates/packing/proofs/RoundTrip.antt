@@ -14,8 +14,8 @@ use Rattle.bits.specs.Bits.{bits_of, number}
 use Rattle.bits.proofs.Digits.{length-bits, number_of_bits}
 use Rattle.records.specs.declared.shape.Kind.{Kind}
 use Rattle.records.specs.declared.shape.Kind.TheVariants.{Four, Five, Six, Seven}
-use Rattle.records.specs.declared.shape.Shape.{Shape}
-use Rattle.records.specs.declared.shape.Shape.TheVariants.{Follows, Ends}
+use Rattle.std.specs.Prelude.{Some, None}
+use Rattle.records.specs.Following.{Following, follows}
 use Rattle.records.specs.Format.{Format, format, patch_shape, shape_of, sum, numbers, next, readings, raw_reading}
 use Rattle.records.proofs.Shapes.{every_patch}
 use Rattle.records.proofs.Readings.{sum-append, sum-replicate, next_fits, next_none, readings_none, readings_some}
@@ -119,9 +119,9 @@ read_back F th xs bits p e =
 
 module _ (first coord comp n : ℕ) (c : 1 ≤ coord) where
   -- a record of the shape takes 8 bits at least
-  abbrev Whole : Shape → Type 0
-  Whole (Follows coords colours) = 8 ≤ first + (coords * coord + colours * n * comp)
-  Whole Ends = Unit {0}
+  abbrev Whole : Following → Type 0
+  Whole (Some shape) = 8 ≤ first + (shape.coords * coord + shape.colours * n * comp)
+  Whole None = Unit {0}
 
   whole_patch : (own : ℕ) (started : Bool) (x : ℕ) → 4 ≤ own → Whole (patch_shape own started x)
   whole_patch own started x h = every_patch Whole own started x (omega (arith, mul-le-mul h c)) (omega (arith, mul-le-mul h c)) tt
@@ -136,6 +136,6 @@ module _ (first coord comp n : ℕ) (c : 1 ≤ coord) where
   pub thick : (kind : Kind) → thin kind first coord comp n ≡ false → Thick (format kind first coord comp n)
   thick kind t started x due e =
       let r = follows_some coord comp n (shape_of kind started x) due e in
-      let w : Whole (Follows r.0 r.1) = subst Whole r.2 (whole_shape kind started x t) in
+      let w : Whole (follows r.0 r.1) = subst Whole r.2 (whole_shape kind started x t) in
       rw r.3
       (omega (arith, w, sum-append (replicate r.0 coord) (replicate (r.1 * n) comp), sum-replicate r.0 coord, sum-replicate (r.1 * n) comp))

@@ -6,7 +6,6 @@ ghost use Rattle.answers.specs.Outcome.{Done};
 ghost use Rattle.records.specs.declared.shape.Kind.TheVariants.{Four, Five, Six, Seven};
 ghost use Rattle.packing.specs.Writer.{raw_write};
 
-mod finding;
 mod measure;
 mod put;
 mod write;

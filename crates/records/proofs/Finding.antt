@@ -22,6 +22,14 @@ sum-after m coords comps =
 pub length-after : (m : Mesh) (coords comps : ℕ) → length (widths_after m coords comps) ≡ coords + comps
 length-after m coords comps = rw (length-append, length-replicate coords m.coord, length-replicate comps m.comp)
 
+-- the widths of what follows
+pub follow_more : {m : Mesh} {started : Bool} {x coords comps : ℕ} → Follow m started x coords comps
+    → (format_of m).more started x ≡ some (widths_after m coords comps)
+follow_more e = rw (e.shape, ← e.comps_are)
+
+pub end_more : (m : Mesh) (started : Bool) (x : ℕ) → shape_of m.kind started x ≡ ends → (format_of m).more started x ≡ none
+end_more m started x e = rw e
+
 -- ---- whether there is a record
 
 module _ (m : Mesh) (s : List ℕ) (started : Bool) (p : ℕ) (within : p ≤ 8 * length s) where

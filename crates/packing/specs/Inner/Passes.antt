@@ -1,16 +1,13 @@
 -- What the writer's inner functions promise one another.
-use Rattle.std.specs.Prelude.{◌≡◌, Bool, true, ◌&&◌, List, [], ◌∷◌, ◌++◌, ℕ, ◌+◌, ◌*◌, ◌^◌, ◌≤◌, ◌<◌, ltb, leb, length, take, drop, get_or}
+use Rattle.std.specs.Prelude.{Some, None, ◌≡◌, Bool, true, ◌&&◌, List, [], ◌∷◌, ◌++◌, ℕ, ◌+◌, ◌*◌, ◌^◌, ◌≤◌, ◌<◌, ltb, leb, length, take, drop, get_or}
 use Rattle.std.proofs.Math.Option.{Option, none, some}
 use Rattle.lists.specs.Lists.{AllBelow, flat}
 use Rattle.lists.specs.Writing.{Written}
 use Rattle.bits.specs.Bits.{bits_of, stream}
 use Rattle.records.specs.declared.mesh.Mesh.{Mesh}
-use Rattle.records.specs.Inner.Walk.{format_of, widths_after}
-use Rattle.packing.specs.declared.finding.Found.{Found}
-use Rattle.packing.specs.declared.finding.Found.TheVariants.{Record, End}
 use Rattle.packing.specs.declared.put.Waiting.{Waiting}
-use Rattle.packing.specs.declared.measure.Measured.{Measured}
-use Rattle.packing.specs.declared.measure.Measured.TheVariants.{Bits, Unfit}
+use Rattle.packing.specs.Packed.{bytes}
+use Rattle.packing.specs.Inner.Measure.{Measured}
 
 -- ---- a list, run by run
 
@@ -28,14 +25,6 @@ abbrev pub run_bits : ℕ → List ℕ → List ℕ
 run_bits w xs = flat (bits_of w) xs
 
 -- ---- a record: its first number, so many coordinates and components
-
--- what follows the number at index i, at which a record begins
-abbrev pub FoundIn : Mesh → List ℕ → ℕ → Found → Type 0
-FoundIn m xs i (Record coords comps) =
-    ((format_of m).more (ltb 0 i) (get_or xs i 0) ≡ some (widths_after m coords comps))
-    × (coords ≤ 32)
-    × (comps ≤ 128)
-FoundIn m xs i End = (format_of m).more (ltb 0 i) (get_or xs i 0) ≡ none
 
 -- the record at index i is there, and each number of it fits
 abbrev pub record_fits : Mesh → ℕ → ℕ → List ℕ → ℕ → Bool
@@ -55,13 +44,18 @@ record_bits m coords comps xs i =
 
 -- what the first pass finds
 unfoldable pub measure_of : Option (List ℕ) → Measured
-measure_of none = Unfit
-measure_of (some bits) = Bits (length bits)
+measure_of none = None
+measure_of (some bits) = Some (length bits)
 
 -- the list is accepted, and its bits have room in so many bytes
 unfoldable pub Roomy : Option (List ℕ) → ℕ → Type 0
 Roomy none room = ⊥
 Roomy (some bits) room = length bits ≤ 8 * room
+
+-- the bytes of a list that is accepted have been written
+unfoldable pub Filled : Option (List ℕ) → List ℕ → List ℕ → ℕ → Type 0
+Filled none entry exit p = ⊥
+Filled (some bits) entry exit p = Written entry exit 0 (bytes bits) p
 
 -- so many bytes have been stored from an index: the low digits of a number
 pub record Stored (entry exit : List ℕ) (at count number : ℕ) : Type 0 where

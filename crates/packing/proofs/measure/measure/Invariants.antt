@@ -8,7 +8,13 @@ use Rattle.packing.proofs.Passing.{Reached}
 use Rattle.packing.proofs.measure.measure.Given as goal
 
 abbrev pub invariant-loop-i : goal.invariant-loop-i
-invariant-loop-i l = (l.i ≤ length l.numbers) × (l.total ≤ 32 * l.i) × ((b : List ℕ) × Reached l.mesh l.numbers l.i b × (length b ≡ l.total))
+invariant-loop-i l = record {
+  within : l.i ≤ length l.numbers;
+  few : l.total ≤ 32 * l.i;
+  bits : List ℕ;
+  reached : Reached l.mesh l.numbers l.i bits;
+  counted : length bits ≡ l.total;
+}
 
 abbrev pub decreases-loop-i : goal.decreases-loop-i
 decreases-loop-i l = length l.numbers - l.i

@@ -8,7 +8,12 @@ use Rattle.packing.proofs.Passing.{Reached}
 use Rattle.packing.proofs.write.fill.Given as goal
 
 abbrev pub invariant-loop-i : goal.invariant-loop-i
-invariant-loop-i l = (l.i ≤ length l.numbers) × ((b : List ℕ) × Reached l.mesh l.numbers l.i b × Put l.initial.waiting l.waiting l.initial.out l.out b)
+invariant-loop-i l = record {
+  within : l.i ≤ length l.numbers;
+  bits : List ℕ;
+  reached : Reached l.mesh l.numbers l.i bits;
+  are_put : Put l.initial.waiting l.waiting l.initial.out l.out bits;
+}
 
 abbrev pub decreases-loop-i : goal.decreases-loop-i
 decreases-loop-i l = length l.numbers - l.i

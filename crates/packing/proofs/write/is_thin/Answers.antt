@@ -1,4 +1,5 @@
 -- `packing::write::is_thin` meets its contract: a case for each mesh type. Assumes nothing.
+use Rattle.std.proofs.Common.{inl, inr}
 use Rattle.packing.specs.Writer.{thin}
 use Rattle.packing.proofs.write.is_thin.Goals as goal
 
@@ -12,8 +13,4 @@ returns-in-Five c = rw c.in-Five.is
 
 pub returns-in-Six : goal.returns-in-Six
 unfolding thin
-returns-in-Six c = rw c.in-Six.is
-
-pub returns-in-Seven : goal.returns-in-Seven
-unfolding thin
-returns-in-Seven c = rw c.in-Seven.is
+returns-in-Six c = elim c.in-Six.is [ inl e ↦ rw e | inr e ↦ rw e ]

@@ -1,47 +1,40 @@
 -- `packing::write::write` meets its contract: the refusals in their order, and then `pack`.
 -- Assumes nothing.
-use Prim.Native.Nat.{◌≤◌}
-use mathlib.Core.Path.{sym, ◌∙◌}
-use native.Mathlib.Omega.{arith}
-use borrow.Author.Tests.{lt-ltb, le-ltb}
-use Rattle.answers.specs.Limits.{most_components}
+use Rattle.std.proofs.Common.{lt-ltb, le-ltb}
+use Rattle.std.proofs.lemmas.Result.{err_from_is_err_and}
 use Rattle.answers.proofs.Outcomes.{was_refused}
+use Rattle.records.specs.Inner.Walk.{tested}
+use Rattle.records.proofs.Walks.{refused_by, gone_on, same_format}
 use Rattle.packing.specs.Writer.{raw_write}
-use Rattle.records.specs.Inner.Walk.{Readable}
-use Rattle.records.proofs.Walks.{past_tests}
 use Rattle.packing.proofs.write.write.Goals as goal
-use Rattle.packing.proofs.write.write.Goals.{Else-n-gt-MOST_COMPONENTS}
 
-readable : (c : Else-n-gt-MOST_COMPONENTS)
-    → Readable (record { kind = c.args.kind; first = c.args.first; coord = c.args.coord; comp = c.args.comp; n = c.args.n })
-readable c =
+pub returns-in_err-mesh : goal.returns-in_err-mesh
+unfolding raw_write tested
+returns-in_err-mesh c =
     let a = c.args in
-    past_tests a.kind a.first a.coord a.comp a.n (sym c.widths_are_readable.ensures ∙ c.if-not-widths_are_readable.false) c.if-n-gt-MOST_COMPONENTS.false
-
-pub returns-then-not-widths_are_readable : goal.returns-then-not-widths_are_readable
-unfolding raw_write
-returns-then-not-widths_are_readable c = rw (← c.widths_are_readable.ensures, c.if-not-widths_are_readable.true) was_refused
-
-pub returns-then-n-gt-MOST_COMPONENTS : goal.returns-then-n-gt-MOST_COMPONENTS
-unfolding raw_write
-returns-then-n-gt-MOST_COMPONENTS c = rw (← c.widths_are_readable.ensures, c.if-not-widths_are_readable.false, lt-ltb _ _ c.if-n-gt-MOST_COMPONENTS.true) was_refused
+    let p = err_from_is_err_and c.from_residual.result c.from_residual.ensures.1 in
+    rw (p.1, p.2, refused_by a.first a.coord a.comp a.n c.in_err-mesh.ensures _) was_refused
 
 pub returns-then-numbers-gt-MOST_NUMBERS : goal.returns-then-numbers-gt-MOST_NUMBERS
-unfolding raw_write
+unfolding raw_write tested
 returns-then-numbers-gt-MOST_NUMBERS c =
-    let few : c.args.n ≤ most_components = omega arith in
-    rw (← c.widths_are_readable.ensures, c.if-not-widths_are_readable.false, le-ltb _ _ few, lt-ltb _ _ c.if-numbers-gt-MOST_NUMBERS.true) was_refused
-
-pub is_thin-requires : goal.is_thin-requires
-is_thin-requires c = readable (goal.at.is_thin-requires c).Else-n-gt-MOST_COMPONENTS
+    let a = c.args in
+    let m = c.in_ok-mesh.ensures in
+    rw (gone_on a.first a.coord a.comp a.n m.readable m.few _, lt-ltb _ _ c.if-numbers-gt-MOST_NUMBERS.true) was_refused
 
 pub returns-then-is_thin : goal.returns-then-is_thin
-unfolding raw_write
-returns-then-is_thin c = rw (← c.widths_are_readable.ensures, c.if-not-widths_are_readable.false, le-ltb _ _ c.if-n-gt-MOST_COMPONENTS.false, le-ltb _ _ c.if-numbers-gt-MOST_NUMBERS.false, ← c.is_thin.ensures, c.if-is_thin.true) was_refused
-
-pub pack-requires : goal.pack-requires
-pack-requires c = (readable (goal.at.pack-requires c).Else-n-gt-MOST_COMPONENTS, c.if-numbers-gt-MOST_NUMBERS.false)
+unfolding raw_write tested
+returns-then-is_thin c =
+    let a = c.args in
+    let m = c.in_ok-mesh.ensures in
+    let thin = rw (m.kind_is, m.first_is, m.coord_is, m.comp_is, m.n_is) at c.is_thin.ensures in
+    rw (gone_on a.first a.coord a.comp a.n m.readable m.few _, le-ltb _ _ c.if-numbers-gt-MOST_NUMBERS.false, ← thin, c.if-is_thin.true) was_refused
 
 pub returns : goal.returns
-unfolding raw_write
-returns c = rw (← c.widths_are_readable.ensures, c.if-not-widths_are_readable.false, le-ltb _ _ c.if-n-gt-MOST_COMPONENTS.false, le-ltb _ _ c.if-numbers-gt-MOST_NUMBERS.false, ← c.is_thin.ensures, c.if-is_thin.false) c.pack.ensures
+unfolding raw_write tested
+returns c =
+    let a = c.args in
+    let m = c.in_ok-mesh.ensures in
+    let thin = rw (m.kind_is, m.first_is, m.coord_is, m.comp_is, m.n_is) at c.is_thin.ensures in
+    rw (gone_on a.first a.coord a.comp a.n m.readable m.few _, le-ltb _ _ c.if-numbers-gt-MOST_NUMBERS.false, ← thin, c.if-is_thin.false)
+    (rw (same_format m) at c.pack.ensures)
