@@ -2,10 +2,11 @@
 use Prim.Native.Nat.{ℕ, zero, suc, ◌+◌, ◌-◌, ◌*◌, ◌/◌, ◌%◌, ◌^◌, ◌≤◌, ◌<◌}
 use mathlib.Core.Path.{◌≡◌, refl, sym, ap, ◌∙◌, subst}
 use mathlib.Core.List.{List, [], ◌∷◌, ◌++◌, append-nil}
-use native.Mathlib.Nat.{add_assoc, mul-add, one-mul, mod-lt, lt_of_lt_of_le, zero-add}
+use native.Mathlib.Nat.{add-zero, add_assoc, mul-add, one-mul, mod-lt, lt_of_lt_of_le, zero-add}
 use native.Mathlib.Omega.{arith}
 use lib.ListN.{length, take, drop, get_or, replicate, length-append}
-use lib.Seq.{drop-drop, take-add, drop-cons}
+use lib.Seq.{drop-drop, take-add, drop-cons, get_or-take, get_or-drop}
+use Rattle.std.specs.Int.{w64, from_be_bytes}
 use lib.Pow.{pow_pos, pow-add, pow_mono, shl_exact, shl-shr, shr-shr, field}
 use lib.Arith.{digits_lt}
 use lib.Bits.{bit_or, or_shifted}
@@ -44,16 +45,47 @@ pub gathers_put : {s : List ℕ} {from : ℕ} (w a b : ℕ) {x y : ℕ} → 8 * 
     → Gathers s from (a + b) (bit_or (x * 2 ^ (8 * b) % 2 ^ w) y)
 gathers_put w a b {x} {y} fits g h = rw (put_below w (8 * a) (8 * b) x y g.small fits h.small) (gathers_join a b g h)
 
--- the byte at j after from, put above the k bytes after it in a number of w bits
-pub gathers_before : {s : List ℕ} (w from j k : ℕ) {x y : ℕ} → 8 + 8 * k ≤ w → Gathers s (from + j) 1 x → Gathers s (from + (j + 1)) k y
-    → Gathers s (from + j) (1 + k) (bit_or (x * 2 ^ (8 * k) % 2 ^ w) y)
-gathers_before {s} w from j k {y = y} fits g h =
-    gathers_put w 1 k fits g (subst (λ (i : ℕ). Gathers s i k y) (sym (add_assoc from j 1)) h)
-
 -- one more byte after the first k
 pub gathers_next : {s : List ℕ} (w k : ℕ) {x y : ℕ} → 8 * k + 8 ≤ w → Gathers s 0 k x → Gathers s k 1 y
     → Gathers s 0 (k + 1) (bit_or (x * 2 ^ 8 % 2 ^ w) y)
 gathers_next w k fits g h = gathers_put w k 1 fits g (rw (zero-add k) h)
+
+-- eight bytes, as std's `from_be_bytes` puts them together
+module _ (s : List ℕ) (from : ℕ) (there : from + 8 ≤ length s) (small : (i : ℕ) → get_or s i 0 < 256) where
+  byte : ℕ → ℕ
+  byte k = get_or s (from + k) 0
+
+  in_chunk : (k : ℕ) → k < 8 → get_or (take 8 (drop from s)) k 0 ≡ byte k
+  unfolding byte
+  in_chunk k h = get_or-take 8 (drop from s) k 0 h ∙ get_or-drop from s k 0
+
+  one : (k : ℕ) → k < 8 → Gathers s (from + k) 1 (byte k)
+  unfolding byte
+  one k h = gathers_one s (from + k) (omega arith) (small (from + k))
+
+  before : (k j : ℕ) {y : ℕ} → k < 8 → Gathers s (from + (k + 1)) j y → Gathers s (from + k) (1 + j) (byte k * 2 ^ (8 * j) + y)
+  before k j {y} h g = gathers_join 1 j (one k h) (subst (λ (i : ℕ). Gathers s i j y) (sym (add_assoc from k 1)) g)
+
+  pub gathers_eight : Gathers s from 8 (from_be_bytes w64 (take 8 (drop from s)))
+  gathers_eight =
+      let all = before 0 7 (omega arith) (before 1 6 (omega arith) (before 2 5 (omega arith) (before 3 4 (omega arith)
+      (before 4 3 (omega arith) (before 5 2 (omega arith) (before 6 1 (omega arith) (one 7 (omega arith)))))))) in
+      subst (λ (n : ℕ). Gathers s from 8 n) same (rw add-zero at all)
+    where
+      same : byte 0 * 2 ^ 56 + (byte 1 * 2 ^ 48 + (byte 2 * 2 ^ 40 + (byte 3 * 2 ^ 32 + (byte 4 * 2 ^ 24 + (byte 5 * 2 ^ 16 + (byte 6 * 2 ^ 8 + byte 7))))))
+          ≡ from_be_bytes w64 (take 8 (drop from s))
+      same =
+          omega (
+            arith,
+            in_chunk 0 (omega arith),
+            in_chunk 1 (omega arith),
+            in_chunk 2 (omega arith),
+            in_chunk 3 (omega arith),
+            in_chunk 4 (omega arith),
+            in_chunk 5 (omega arith),
+            in_chunk 6 (omega arith),
+            in_chunk 7 (omega arith),
+          )
 
 -- how code makes the bound of n bits; the crates above use it
 pub one_shl : (n : ℕ) → n ≤ 32 → 1 * 2 ^ n % 2 ^ 64 ≡ 2 ^ n

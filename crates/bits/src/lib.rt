@@ -26,73 +26,40 @@ pub fn width_is_readable(bits: usize) -> bool
 pub fn byte_of(at: BitPos) -> BytePlace
     ensures { result.0 ≡ at.0 / 8 }
 {
-    let p = at.0;
-    BytePlace(p / 8)
+    BytePlace(at.0 / 8)
 }
 
 // Whether no byte is left at a place.
 pub fn exhausted(data: &[u8], at: BitPos) -> bool
     ensures { result ≡ exhausted_at «data».now at.0 }
 {
-    let place = byte_of(at);
-    let i = place.0;
-    data.len() <= i
+    data.len() <= byte_of(at).0
 }
 
-// The bits of 1 or 8 bytes from a place, as a number.
-
-fn one_byte(data: &[u8], from: BytePlace) -> u64
-    requires { from.0 + 1 ≤ length «data».now }
-    ensures { Gathers «data».now from.0 1 result }
-{
-    let i = from.0;
-    data[i] as u64
-}
-
-// Eight bytes in one go: each is put where it belongs, so that a machine can load them at once.
+// The bits of eight bytes from a place, as a number. A machine can load them at once.
 fn eight_bytes(data: &[u8], from: BytePlace) -> u64
     requires { from.0 + 8 ≤ length «data».now }
     ensures { Gathers «data».now from.0 8 result }
 {
-    let i = from.0;
-    let a = one_byte(data, from);
-    let b = one_byte(data, BytePlace(i + 1));
-    let c = one_byte(data, BytePlace(i + 2));
-    let d = one_byte(data, BytePlace(i + 3));
-    let e = one_byte(data, BytePlace(i + 4));
-    let f = one_byte(data, BytePlace(i + 5));
-    let g = one_byte(data, BytePlace(i + 6));
-    let h = one_byte(data, BytePlace(i + 7));
-    (a << 56) | ((b << 48) | ((c << 40) | ((d << 32) | ((e << 24) | ((f << 16) | ((g << 8) | h))))))
-}
-
-// The byte at a place, or 0 past the last one.
-fn byte_or_zero(data: &[u8], from: BytePlace) -> u64
-    ensures { result ≡ get_or «data».now from.0 0 }
-{
-    let i = from.0;
-    if i < data.len() {
-        return data[i] as u64;
-    }
-    0
+    u64::from_be_bytes(*data[from.0..].first_chunk().unwrap())
 }
 
 // The bits of the first eight bytes, as a number. Zeros stand for bytes that aren't there.
 fn first_eight(data: &[u8]) -> u64
     ensures { Gathers («data».now ++ replicate 8 0) 0 8 result }
 {
-    let mut accum: u64 = 0;
-    let mut k: usize = 0;
-    while k < 8 {
-        accum = (accum << 8) | byte_or_zero(data, BytePlace(k));
-        k += 1;
+    let mut accum = 0;
+    for k in 0..8 {
+        accum = (accum << 8) | u64::from(data.get(k).copied().unwrap_or(0));
     }
     accum
 }
 
 // Of eight gathered bytes, the n bits at an offset: what stands before them is shifted out, then what stands after them.
 fn window(accum: u64, offset: usize, n: usize) -> u32
-    requires { (1 ≤ n) × (n ≤ 32) × (offset + n ≤ 64) }
+    requires some { 1 ≤ n }
+    requires few { n ≤ 32 }
+    requires inside { offset + n ≤ 64 }
     ensures { result ≡ accum / 2 ^ (64 - offset - n) % 2 ^ n }
 {
     ((accum << offset) >> (64 - n)) as u32
@@ -100,7 +67,10 @@ fn window(accum: u64, offset: usize, n: usize) -> u32
 
 // The n bits at an offset into the first byte, all of which exist.
 fn field(data: &[u8], offset: usize, n: usize) -> u32
-    requires { (offset < 8) × (1 ≤ n) × (n ≤ 32) × (offset + n ≤ 8 * length «data».now) }
+    requires first_byte { offset < 8 }
+    requires some { 1 ≤ n }
+    requires few { n ≤ 32 }
+    requires whole { offset + n ≤ 8 * length «data».now }
     ensures { result ≡ field_at «data».now offset n }
 {
     window(first_eight(data), offset, n)
@@ -117,21 +87,13 @@ pub fn read_seldom(data: &[u8], at: BitPos, n: usize) -> Option<(u32, BitPos)>
     if n > 32 {
         return None;
     }
-    let p = at.0;
-    if p > 0xffff_ffff_ffff_ffff - n {
-        return None;
-    }
-    let end = p + n;
-    let place = byte_of(at);
-    let byte = place.0;
-    let offset = p % 8;
-    if data.len() < byte {
-        return None;
-    }
-    if data.len() - byte < (offset + n + 7) / 8 {
+    let end = at.0.checked_add(n)?;
+    let BytePlace(byte) = byte_of(at);
+    let offset = at.0 % 8;
+    let rest = data.get(byte..)?;
+    if rest.len() < (offset + n).div_ceil(8) {
         return None; // not all bits exist
     }
-    let rest = &data[byte..];
     Some((field(rest, offset, n), BitPos(end)))
 }
 
@@ -141,19 +103,11 @@ pub fn read_seldom(data: &[u8], at: BitPos, n: usize) -> Option<(u32, BitPos)>
 pub fn read(data: &[u8], at: BitPos, n: usize) -> Option<(u32, BitPos)>
     ensures { result ≡ read_at «data».now at.0 n }
 {
-    let p = at.0;
     let place = byte_of(at);
-    let byte = place.0;
-    if 1 <= n {
-        if n <= 32 {
-            if byte + 8 <= data.len() {
-                if data.len() <= 0x1fff_ffff_ffff_ffff { // a usize counts its bits
-                    let number = window(eight_bytes(data, place), p % 8, n);
-                    let end = p + n;
-                    return Some((number, BitPos(end)));
-                }
-            }
-        }
+    let counted = data.len() <= 0x1fff_ffff_ffff_ffff; // a usize counts its bits
+    if width_is_readable(n) && place.0 + 8 <= data.len() && counted {
+        let number = window(eight_bytes(data, place), at.0 % 8, n);
+        return Some((number, BitPos(at.0 + n)));
     }
     read_seldom(data, at, n)
 }

@@ -1,17 +1,13 @@
--- `bits::eight_bytes` meets its contract: `gathers_before` of proofs/Gathering.antt, byte by byte.
--- Assumes nothing.
-use lib.Dec.{lit≤}
-use Rattle.bits.proofs.Gathering.{gathers_put, gathers_before}
+-- `bits::eight_bytes` meets its contract: `gathers_eight` of proofs/Gathering.antt. Assumes nothing.
+use Rattle.std.proofs.Common.{◌≡◌, ◌-◌, arith, length, take, drop, length-drop}
+use lib.Seq.{take_all}
+use Rattle.bits.proofs.Gathering.{gathers_eight}
 use Rattle.bits.proofs.eight_bytes.Goals as goal
 
 pub returns : goal.returns
 returns c =
-    let i = c.args.from.0 in
-    gathers_put 64 1 7 (lit≤ tt) c.one_byte-a.ensures
-    (gathers_before 64 i 1 6 (lit≤ tt) c.one_byte-b.ensures
-    (gathers_before 64 i 2 5 (lit≤ tt) c.one_byte-c.ensures
-    (gathers_before 64 i 3 4 (lit≤ tt) c.one_byte-d.ensures
-    (gathers_before 64 i 4 3 (lit≤ tt) c.one_byte-e.ensures
-    (gathers_before 64 i 5 2 (lit≤ tt) c.one_byte-f.ensures
-    (gathers_before 64 i 6 1 (lit≤ tt) c.one_byte-g.ensures
-    c.one_byte-h.ensures))))))
+    let s = c.args.data.now in
+    let from = c.args.from.0 in
+    let chunk = rw c.unwrap.ensures at c.first_chunk.ensures.cases in
+    let whole : take (length s - from) (drop from s) ≡ drop from s = take_all _ _ (omega (arith, length-drop from s)) in
+    rw (c.from_be_bytes.ensures, chunk.same, whole) (gathers_eight s from c.requires (λ i. (c.type_inv.data i).fits))

@@ -2,6 +2,8 @@
 -- Assumes nothing.
 use Prim.Native.Nat.{◌+◌, ◌*◌, ◌%◌}
 use mathlib.Core.Path.{◌≡◌}
+use lib.ListN.{length}
+use Prim.Native.Nat.{◌<◌, ◌/◌}
 use native.Mathlib.Omega.{arith}
 use Rattle.bits.proofs.Streams.{field_from}
 use Rattle.bits.proofs.Answers.{answer_none, answer_wide, answer_short, answer_unplaced, answer_number}
@@ -17,25 +19,29 @@ returns-then-n-gt32 c =
     let a = c.args in
     answer_wide a.data.now a.at.0 a.n (omega arith)
 
-pub returns-then-p-n : goal.returns-then-p-n
-returns-then-p-n c =
+pub returns-in_err-end : goal.returns-in_err-end
+returns-in_err-end c =
     let a = c.args in
-    answer_unplaced a.data.now a.at.0 a.n (omega arith) (omega arith)
+    rw c.from_residual.ensures (answer_unplaced a.data.now a.at.0 a.n (omega arith) (omega (arith, c.in_err-end.ensures)))
 
-pub returns-then-data-byte : goal.returns-then-data-byte
-returns-then-data-byte c =
+pub returns-in_err-rest : goal.returns-in_err-rest
+returns-in_err-rest c =
     let a = c.args in
-    answer_short a.data.now a.at.0 a.n (omega arith) (omega arith)
+    let past : length a.data.now < a.at.0 / 8 = grind (arith, c.byte_of-byte.ensures) in
+    rw c.from_residual-in_err-rest.ensures (answer_short a.data.now a.at.0 a.n (omega arith) (omega arith))
 
-pub returns-then-data-byte-2 : goal.returns-then-data-byte-2
-returns-then-data-byte-2 c =
+pub returns-then-rest-div_ceil : goal.returns-then-rest-div_ceil
+returns-then-rest-div_ceil c =
     let a = c.args in
-    answer_short a.data.now a.at.0 a.n (omega arith) (omega arith)
+    let size = c.in_ok-rest.ensures.lookup.0.3 in
+    answer_short a.data.now a.at.0 a.n (omega arith) (omega (arith, c.byte_of-byte.ensures, c.div_ceil.ensures))
 
 pub returns : goal.returns
 returns c =
     let a = c.args in
-    let i = c.byte_of-place.result.0 in
+    let i = c.byte_of-byte.result.0 in
+    let size = c.in_ok-rest.ensures.lookup.0.3 in
     let e : 8 * i + a.at.0 % 8 ≡ a.at.0 = omega arith in
-    rw (c.field.ensures, field_from a.data.now i (a.at.0 % 8) a.n, e)
-    (answer_number a.data.now a.at.0 a.n (omega arith) (omega arith) (omega arith) (omega arith))
+    let end : c.in_ok-end.end ≡ a.at.0 + a.n = omega (arith, c.in_ok-end.ensures) in
+    rw (end, c.field.ensures, c.in_ok-rest.ensures.lookup.0.2, field_from a.data.now i (a.at.0 % 8) a.n, e)
+    (answer_number a.data.now a.at.0 a.n (omega arith) (omega arith) (omega (arith, c.div_ceil.ensures)) (omega arith))
