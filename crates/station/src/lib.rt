@@ -30,7 +30,7 @@ pub extern "C" fn mesh_parse_type4(
 ) -> Told
     ensures { Tells (parse4 whole_number (binary_reader none 0) «data».now coord comp flag decode.now n (length out.old)) out.old result out.new }
 {
-    answers::tell(triangles::parse_type4_mesh(data, coord, comp, flag, decode, n, out))
+    triangles::parse_type4_mesh(data, coord, comp, flag, decode, n, out).into()
 }
 
 #[unsafe(no_mangle)]
@@ -45,7 +45,7 @@ pub extern "C" fn mesh_parse_type5(
 ) -> Told
     ensures { Tells (parse5 «data».now coord comp decode.now n row (length out.old)) out.old result out.new }
 {
-    answers::tell(triangles::parse_type5_mesh(data, coord, comp, decode, n, row, out))
+    triangles::parse_type5_mesh(data, coord, comp, decode, n, row, out).into()
 }
 
 #[unsafe(no_mangle)]
@@ -60,7 +60,7 @@ pub extern "C" fn mesh_parse_type6(
 ) -> Told
     ensures { Tells (parse6 whole_number sides «data».now coord comp flag decode.now n (length out.old)) out.old result out.new }
 {
-    answers::tell(patches::parse_type6_patches(data, coord, comp, flag, decode, n, out))
+    patches::parse_type6_patches(data, coord, comp, flag, decode, n, out).into()
 }
 
 #[unsafe(no_mangle)]
@@ -75,7 +75,7 @@ pub extern "C" fn mesh_parse_type7(
 ) -> Told
     ensures { Tells (parse7 whole_number sides «data».now coord comp flag decode.now n (length out.old)) out.old result out.new }
 {
-    answers::tell(patches::parse_type7_patches(data, coord, comp, flag, decode, n, out))
+    patches::parse_type7_patches(data, coord, comp, flag, decode, n, out).into()
 }
 
 // Meshes from bytes, as ISO 32000-1 says, but for what docs/DIFFERENCES.md lists.
@@ -92,7 +92,7 @@ pub extern "C" fn mesh_published_type4(
 ) -> Told
     ensures { Tells (parse4 two_low_bits (triangles triangle_before) «data».now coord comp flag decode.now n (length out.old)) out.old result out.new }
 {
-    answers::tell(triangles::published_type4_mesh(data, coord, comp, flag, decode, n, out))
+    triangles::published_type4_mesh(data, coord, comp, flag, decode, n, out).into()
 }
 
 #[unsafe(no_mangle)]
@@ -107,7 +107,7 @@ pub extern "C" fn mesh_published_type5(
 ) -> Told
     ensures { Tells (parse5 «data».now coord comp decode.now n row (length out.old)) out.old result out.new }
 {
-    answers::tell(triangles::published_type5_mesh(data, coord, comp, decode, n, row, out))
+    triangles::published_type5_mesh(data, coord, comp, decode, n, row, out).into()
 }
 
 #[unsafe(no_mangle)]
@@ -122,7 +122,7 @@ pub extern "C" fn mesh_published_type6(
 ) -> Told
     ensures { Tells (parse6 two_low_bits sides «data».now coord comp flag decode.now n (length out.old)) out.old result out.new }
 {
-    answers::tell(patches::published_type6_patches(data, coord, comp, flag, decode, n, out))
+    patches::published_type6_patches(data, coord, comp, flag, decode, n, out).into()
 }
 
 #[unsafe(no_mangle)]
@@ -137,7 +137,7 @@ pub extern "C" fn mesh_published_type7(
 ) -> Told
     ensures { Tells (parse7 two_low_bits sides «data».now coord comp flag decode.now n (length out.old)) out.old result out.new }
 {
-    answers::tell(patches::published_type7_patches(data, coord, comp, flag, decode, n, out))
+    patches::published_type7_patches(data, coord, comp, flag, decode, n, out).into()
 }
 
 // Meshes from a list of numbers, as 000 builds them.
@@ -146,28 +146,28 @@ pub extern "C" fn mesh_published_type7(
 pub extern "C" fn mesh_build_type4(values: &[f64], n: usize, out: &mut [f64]) -> Told
     ensures { Tells (build4 (list_builder [] 0) values.now n (length out.old)) out.old result out.new }
 {
-    answers::tell(triangles::build_type4_from_array(values, n, out))
+    triangles::build_type4_from_array(values, n, out).into()
 }
 
 #[unsafe(no_mangle)]
 pub extern "C" fn mesh_build_type5(values: &[f64], n: usize, row: usize, out: &mut [f64]) -> Told
     ensures { Tells (build5 values.now n row (length out.old)) out.old result out.new }
 {
-    answers::tell(triangles::build_type5_from_array(values, n, row, out))
+    triangles::build_type5_from_array(values, n, row, out).into()
 }
 
 #[unsafe(no_mangle)]
 pub extern "C" fn mesh_build_type6(values: &[f64], n: usize, out: &mut [f64]) -> Told
     ensures { Tells (build6 sides values.now n (length out.old)) out.old result out.new }
 {
-    answers::tell(patches::build_type6_from_array(values, n, out))
+    patches::build_type6_from_array(values, n, out).into()
 }
 
 #[unsafe(no_mangle)]
 pub extern "C" fn mesh_build_type7(values: &[f64], n: usize, out: &mut [f64]) -> Told
     ensures { Tells (build7 list_sides values.now n (length out.old)) out.old result out.new }
 {
-    answers::tell(patches::build_type7_from_array(values, n, out))
+    patches::build_type7_from_array(values, n, out).into()
 }
 
 // Meshes from a list of numbers, by the flag rules of ISO 32000-1.
@@ -176,7 +176,7 @@ pub extern "C" fn mesh_build_type7(values: &[f64], n: usize, out: &mut [f64]) ->
 pub extern "C" fn mesh_build_published_type4(values: &[f64], n: usize, out: &mut [f64]) -> Told
     ensures { Tells (build4 (triangles triangle_before) values.now n (length out.old)) out.old result out.new }
 {
-    answers::tell(triangles::published_type4_from_array(values, n, out))
+    triangles::published_type4_from_array(values, n, out).into()
 }
 
 #[unsafe(no_mangle)]
@@ -188,21 +188,21 @@ pub extern "C" fn mesh_build_published_type5(
 ) -> Told
     ensures { Tells (build5 values.now n row (length out.old)) out.old result out.new }
 {
-    answers::tell(triangles::published_type5_from_array(values, n, row, out))
+    triangles::published_type5_from_array(values, n, row, out).into()
 }
 
 #[unsafe(no_mangle)]
 pub extern "C" fn mesh_build_published_type6(values: &[f64], n: usize, out: &mut [f64]) -> Told
     ensures { Tells (build6 sides values.now n (length out.old)) out.old result out.new }
 {
-    answers::tell(patches::published_type6_from_array(values, n, out))
+    patches::published_type6_from_array(values, n, out).into()
 }
 
 #[unsafe(no_mangle)]
 pub extern "C" fn mesh_build_published_type7(values: &[f64], n: usize, out: &mut [f64]) -> Told
     ensures { Tells (build7 sides values.now n (length out.old)) out.old result out.new }
 {
-    answers::tell(patches::published_type7_from_array(values, n, out))
+    patches::published_type7_from_array(values, n, out).into()
 }
 
 // Raw numbers from bytes.
@@ -218,7 +218,7 @@ pub extern "C" fn mesh_raw_read_type4(
 ) -> Told
     ensures { Tells (raw_read Kind.Four flag coord comp n «data».now (length out.old)) out.old result out.new }
 {
-    answers::tell(records::raw::raw_read_type4(data, coord, comp, flag, n, out))
+    records::raw::raw_read_type4(data, coord, comp, flag, n, out).into()
 }
 
 #[unsafe(no_mangle)]
@@ -231,7 +231,7 @@ pub extern "C" fn mesh_raw_read_type5(
 ) -> Told
     ensures { Tells (raw_read Kind.Five coord coord comp n «data».now (length out.old)) out.old result out.new }
 {
-    answers::tell(records::raw::raw_read_type5(data, coord, comp, n, out))
+    records::raw::raw_read_type5(data, coord, comp, n, out).into()
 }
 
 #[unsafe(no_mangle)]
@@ -245,7 +245,7 @@ pub extern "C" fn mesh_raw_read_type6(
 ) -> Told
     ensures { Tells (raw_read Kind.Six flag coord comp n «data».now (length out.old)) out.old result out.new }
 {
-    answers::tell(records::raw::raw_read_type6(data, coord, comp, flag, n, out))
+    records::raw::raw_read_type6(data, coord, comp, flag, n, out).into()
 }
 
 #[unsafe(no_mangle)]
@@ -259,7 +259,7 @@ pub extern "C" fn mesh_raw_read_type7(
 ) -> Told
     ensures { Tells (raw_read Kind.Seven flag coord comp n «data».now (length out.old)) out.old result out.new }
 {
-    answers::tell(records::raw::raw_read_type7(data, coord, comp, flag, n, out))
+    records::raw::raw_read_type7(data, coord, comp, flag, n, out).into()
 }
 
 // Bytes from raw numbers.
@@ -275,7 +275,7 @@ pub extern "C" fn mesh_raw_write_type4(
 ) -> Told
     ensures { Tells (raw_write Kind.Four flag coord comp n numbers.now (length out.old)) out.old result out.new }
 {
-    answers::tell(packing::raw_write_type4(numbers, coord, comp, flag, n, out))
+    packing::raw_write_type4(numbers, coord, comp, flag, n, out).into()
 }
 
 #[unsafe(no_mangle)]
@@ -288,7 +288,7 @@ pub extern "C" fn mesh_raw_write_type5(
 ) -> Told
     ensures { Tells (raw_write Kind.Five coord coord comp n numbers.now (length out.old)) out.old result out.new }
 {
-    answers::tell(packing::raw_write_type5(numbers, coord, comp, n, out))
+    packing::raw_write_type5(numbers, coord, comp, n, out).into()
 }
 
 #[unsafe(no_mangle)]
@@ -302,7 +302,7 @@ pub extern "C" fn mesh_raw_write_type6(
 ) -> Told
     ensures { Tells (raw_write Kind.Six flag coord comp n numbers.now (length out.old)) out.old result out.new }
 {
-    answers::tell(packing::raw_write_type6(numbers, coord, comp, flag, n, out))
+    packing::raw_write_type6(numbers, coord, comp, flag, n, out).into()
 }
 
 #[unsafe(no_mangle)]
@@ -316,7 +316,7 @@ pub extern "C" fn mesh_raw_write_type7(
 ) -> Told
     ensures { Tells (raw_write Kind.Seven flag coord comp n numbers.now (length out.old)) out.old result out.new }
 {
-    answers::tell(packing::raw_write_type7(numbers, coord, comp, flag, n, out))
+    packing::raw_write_type7(numbers, coord, comp, flag, n, out).into()
 }
 
 // Coons patches turned into tensor-product patches.
@@ -325,12 +325,12 @@ pub extern "C" fn mesh_raw_write_type7(
 pub extern "C" fn mesh_coons_to_tensor_raw(numbers: &[u32], n: usize, out: &mut [i64]) -> Told
     ensures { Tells (coons_to_tensor_raw n numbers.now (length out.old)) out.old result out.new }
 {
-    answers::tell(tensor::coons_to_tensor_raw(numbers, n, out))
+    tensor::coons_to_tensor_raw(numbers, n, out).into()
 }
 
 #[unsafe(no_mangle)]
 pub extern "C" fn mesh_coons_to_tensor(values: &[f64], n: usize, out: &mut [f64]) -> Told
     ensures { Tells (coons_to_tensor n values.now (length out.old)) out.old result out.new }
 {
-    answers::tell(tensor::coons_to_tensor(values, n, out))
+    tensor::coons_to_tensor(values, n, out).into()
 }
