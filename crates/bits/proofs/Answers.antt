@@ -9,7 +9,7 @@ use native.Mathlib.Omega.{arith}
 use lib.ListN.{length}
 use borrow.Author.Tests.{eq-eqb, ne_eqb, lt-ltb, le-ltb, le-leb, lt-leb}
 use Rattle.bits.specs.declared.BitPos.{BitPos}
-use Rattle.std.specs.Prelude.{Option, Some, None, IsSome}
+use Rattle.std.specs.Prelude.{Some, None}
 use Rattle.bits.specs.Bits.{field_at}
 use Rattle.bits.specs.Reading.{BitRead, read_at}
 use Rattle.bits.proofs.Streams.{field_below}
@@ -82,8 +82,3 @@ module _ (s : List ℕ) (p n : ℕ) (nz : 1 ≤ n) where
       by_whole (yes h) =
           let f : ◌≡◌ {A = BitRead} None (Some (field_at s p n, record { 0 = p + n })) = e ∙ sym (answer_number s p n nz w h (omega arith)) in
           let y : ◌≡◌ {A = ℕ} 0 1 = cc f in omega arith
-
--- what is not nothing is there
-pub some_there : {A : Type 0} (o : Option A) → (None ≡ o → ⊥) → IsSome o
-some_there (Some x) n = refl
-some_there None n = absurd (n refl)

@@ -101,7 +101,9 @@ impl Stream<'_> {
     {
         let mut at = from;
         for k in 0..count {
-            let (value, next) = bits::read(self.bytes, at, width).unwrap();
+            let Some((value, next)) = bits::read(self.bytes, at, width) else {
+                unreachable!();
+            };
             out[p + k] = value;
             at = next;
         }
@@ -128,7 +130,10 @@ impl Stream<'_> {
     {
         let mut at = from;
         for k in 0..1 + coords + self.mesh.n {
-            let (value, next) = bits::read(self.bytes, at, width_at(self.mesh, coords, k)).unwrap();
+            let width = width_at(self.mesh, coords, k);
+            let Some((value, next)) = bits::read(self.bytes, at, width) else {
+                unreachable!();
+            };
             out[p + k] = value;
             at = next;
         }
