@@ -1,11 +1,11 @@
 -- A vertex and the rows that come with it: where they stand, and how they are written. Assumes nothing.
 use Prim.Native.Nat.{ℕ, ◌+◌, ◌-◌, ◌*◌, ◌≤◌, ◌<◌}
-use mathlib.Core.Path.{◌≡◌, refl, sym, ap, ap₂, ◌∙◌, subst}
+use mathlib.Core.Path.{◌≡◌, refl, ap, ap₂, ◌∙◌, subst}
 use mathlib.Core.Bool.{Bool, true, false, cond}
 use mathlib.Core.List.{List, [], ◌++◌}
 use native.Mathlib.Omega.{arith}
 use borrow.Author.Tests.{lt-ltb, le-ltb, ltb-true}
-use lib.Dec.{leb, ltb}
+use lib.Dec.{ltb}
 use lib.ListN.{length, length-append}
 use lib.Ieee.{Float, nan}
 use Rattle.lists.specs.Lists.{part}
@@ -13,13 +13,10 @@ use Rattle.lists.specs.Writing.{Written}
 use Rattle.lists.proofs.Pieces.{length_part}
 use Rattle.lists.proofs.Parts.{written_here, written_over, written_beside, written_before_it}
 use Rattle.lists.proofs.Writing.{written_then, part_before}
-use Rattle.decode.specs.Decode.{Ranges}
-use Rattle.colour.specs.Inner.Places.{bit_numbers, list_numbers, point_at, components_at, vertex_at}
+use Rattle.colour.specs.Inner.Places.{Numbers, point_at, components_at, vertex_at}
 use Rattle.colour.proofs.Lengths.{length-colour, length-components_at}
-use Rattle.rows.specs.declared.Layout.{Layout}
-use Rattle.rows.specs.declared.Vertex.{Vertex}
-use Rattle.rows.specs.Inner.Layouts.{vertex_in}
-use Rattle.rows.specs.Inner.Placing.{vertex_of, ten_numbers, row_beside, shared_rows, row_index, bits_fit}
+use Rattle.rows.specs.declared.writing.Vertex.{Vertex}
+use Rattle.rows.specs.Inner.Placing.{vertex_of, ten_numbers, row_beside, shared_rows, row_index}
 use Rattle.rows.proofs.Vertices.{vertex_row_lem}
 
 -- ---- the rows of the side
@@ -103,59 +100,18 @@ module _ (v : Vertex) (n side at : ℕ) {l o : List Float} {p : ℕ} (ten : Writ
 
 -- ---- a vertex that was read
 
--- v was read from place p, and its components to their places beside the row that begins at index row
-pub record VertexRead (L : Layout) (s : List ℕ) (vs : List Float) (R : Ranges) (p : ℕ) (l o : List Float) (row : ℕ) (v : Vertex) : Type 0 where
-  pub comps : List Float
-  pub there : cond L.listed (leb (p + (2 + L.n)) (length vs)) (bits_fit L s p) ≡ true
-  pub sized : length comps ≡ L.n
-  pub beside : Written l o (row + 10) comps (row + (10 + L.n))
-  pub is : ten_numbers v ++ comps ≡ vertex_in L s vs R p
-
-module _ (L : Layout) (s : List ℕ) (vs : List Float) (R : Ranges) (p : ℕ) where
-  pub vertex_listed : L.listed ≡ true → vertex_in L s vs R p ≡ vertex_at (list_numbers vs) 1 1 L.n p
-  unfolding vertex_in
-  vertex_listed e =
-      ap (λ (b : Bool). cond b (vertex_at (list_numbers vs) 1 1 L.n p) (vertex_at (bit_numbers s R) L.coord L.comp L.n p)) e
-
-  pub vertex_in-bits : L.listed ≡ false → vertex_in L s vs R p ≡ vertex_at (bit_numbers s R) L.coord L.comp L.n p
-  unfolding vertex_in
-  vertex_in-bits e =
-      ap (λ (b : Bool). cond b (vertex_at (list_numbers vs) 1 1 L.n p) (vertex_at (bit_numbers s R) L.coord L.comp L.n p)) e
-
-module _ (L : Layout) (s : List ℕ) (vs : List Float) (R : Ranges) (p : ℕ) {l o : List Float} {row : ℕ} {v : Vertex} where
-  pub read_listed : {r : Bool} → L.listed ≡ true → r ≡ leb (p + (2 + L.n)) (length vs) → r ≡ true
-      → v ≡ vertex_of (point_at (list_numbers vs) 1 p) (components_at (list_numbers vs) 1 L.n (p + 2))
-      → Written l o (row + 10) (components_at (list_numbers vs) 1 L.n (p + 2)) (row + (10 + L.n)) → VertexRead L s vs R p l o row v
-  read_listed e t b is w =
-      record {
-        comps = components_at (list_numbers vs) 1 L.n (p + 2);
-        there = subst (λ (k : Bool). cond k (leb (p + (2 + L.n)) (length vs)) (bits_fit L s p) ≡ true) (sym e) (sym t ∙ b);
-        sized = length-components_at (list_numbers vs) 1 L.n (p + 2);
-        beside = w;
-        is = ap (λ (y : Vertex). ten_numbers y ++ components_at (list_numbers vs) 1 L.n (p + 2)) is ∙ vertex_row_lem (list_numbers vs) 1 1 L.n p ∙ sym (vertex_listed L s vs R p e);
-      }
-
-  pub read_bits : {r : Bool} → L.listed ≡ false → r ≡ bits_fit L s p → r ≡ true
-      → v ≡ vertex_of (point_at (bit_numbers s R) L.coord p) (components_at (bit_numbers s R) L.comp L.n (p + 2 * L.coord))
-      → Written l o (row + 10) (components_at (bit_numbers s R) L.comp L.n (p + 2 * L.coord)) (row + (10 + L.n)) → VertexRead L s vs R p l o row v
-  read_bits e t b is w =
-      record {
-        comps = components_at (bit_numbers s R) L.comp L.n (p + 2 * L.coord);
-        there = subst (λ (k : Bool). cond k (leb (p + (2 + L.n)) (length vs)) (bits_fit L s p) ≡ true) (sym e) (sym t ∙ b);
-        sized = length-components_at (bit_numbers s R) L.comp L.n (p + 2 * L.coord);
-        beside = w;
-        is = ap (λ (y : Vertex). ten_numbers y ++ components_at (bit_numbers s R) L.comp L.n (p + 2 * L.coord)) is ∙ vertex_row_lem (bit_numbers s R) L.coord L.comp L.n p ∙ sym (vertex_in-bits L s vs R p e);
-      }
-
-  -- and then written with the rows that come with it
-  pub corner_read : {o' : List Float} {at q : ℕ} (side : ℕ) → VertexRead L s vs R p l o row v → row ≡ row_index side (10 + L.n) at
-      → (side < at → side + (10 + L.n) ≤ at) → q ≡ row_index side (10 + L.n) at + (10 + L.n)
-      → Written o o' at (shared_rows o side (10 + L.n) at ++ row_beside o (row_index side (10 + L.n) at) L.n v) q
-      → Written l o' at (shared_rows l side (10 + L.n) at ++ vertex_in L s vs R p) q
-  corner_read {o'} {at} {q} side h e b end w =
-      let n : ℕ = L.n in
+-- and whose components were written beside its row, which is then written with the rows that come with it
+module _ (N : Numbers) (coord comp n p side : ℕ) where
+  pub corner_read : {l o o' : List Float} {at row q : ℕ} {v : Vertex} → v ≡ vertex_of (point_at N coord p) (components_at N comp n (p + 2 * coord))
+      → Written l o (row + 10) (components_at N comp n (p + 2 * coord)) (row + (10 + n)) → row ≡ row_index side (10 + n) at
+      → (side < at → side + (10 + n) ≤ at) → q ≡ row_index side (10 + n) at + (10 + n)
+      → Written o o' at (shared_rows o side (10 + n) at ++ row_beside o (row_index side (10 + n) at) n v) q
+      → Written l o' at (shared_rows l side (10 + n) at ++ vertex_at N coord comp n p) q
+  corner_read {l} {o} {o'} {at} {row} {q} {v} is beside e b end w =
+      let comps : List Float = components_at N comp n (p + 2 * coord) in
       let later = row_after side (10 + n) at in
-      let same : shared_rows o side (10 + n) at ≡ shared_rows l side (10 + n) at = shared_same side (10 + n) at h.beside (omega arith) b in
-      let beside : part nan o (row_index side (10 + n) at + 10) n ≡ h.comps = rw (← e) (written_here nan n h.beside h.sized) in
-      let whole : Written o o' at (shared_rows l side (10 + n) at ++ (ten_numbers v ++ h.comps)) q = rw (same, beside) at w in
-      written_over h.beside (rw h.is at whole) (omega arith) (omega arith)
+      let same : shared_rows o side (10 + n) at ≡ shared_rows l side (10 + n) at = shared_same side (10 + n) at beside (omega arith) b in
+      let stands : part nan o (row_index side (10 + n) at + 10) n ≡ comps = rw (← e) (written_here nan n beside (length-components_at N comp n (p + 2 * coord))) in
+      let whole : Written o o' at (shared_rows l side (10 + n) at ++ (ten_numbers v ++ comps)) q = rw (same, stands) at w in
+      let vertex : ten_numbers v ++ comps ≡ vertex_at N coord comp n p = ap (λ (y : Vertex). ten_numbers y ++ comps) is ∙ vertex_row_lem N coord comp n p in
+      written_over beside (rw vertex at whole) (omega arith) (omega arith)

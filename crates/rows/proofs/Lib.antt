@@ -1,8 +1,9 @@
 pub mod Fits
 pub mod Held
 pub mod Sources
-pub mod Standings
+pub mod Loops
 pub mod Vertices
 pub mod Corners
 pub mod Masks
 pub mod Callers
+mod Rest

@@ -7,7 +7,7 @@ use native.Mathlib.Omega.{arith}
 use lib.Bits.{and_mask}
 use lib.Ieee.{Float, nan, inf, fin, to_unsigned}
 use Rattle.decode.specs.Decode.{flag_of}
-use Rattle.rows.specs.Inner.Layouts.{masked}
+use Rattle.rows.specs.Inner.Sources.{masked}
 
 pub whole_masked : (x : ℕ) → x < 2 ^ 32 → masked 4294967295 x ≡ x
 whole_masked x h = and_mask x 32 ∙ mod-eq_of_lt h

@@ -1,2 +1,2 @@
-pub mod Layouts
+pub mod Sources
 pub mod Placing

@@ -1,6 +1,9 @@
-// The ranges of Decode in one list: of each kind its least number, then its step.
-ghost use Rattle.std.specs.Prelude.{◌≡◌, cond, ltb, length};
-ghost use Rattle.rows.specs.Inner.Layouts.{range_list};
+// The ranges of Decode, worked out once for all kinds of numbers.
+ghost use Rattle.std.specs.Prelude.{◌≡◌, cond, ltb};
+ghost use Rattle.rows.specs.Inner.Sources.{range_list, filled_ranges};
+
+use crate::{Input, Source};
+use decode::Range;
 
 // The width of the numbers of a kind.
 fn width_of(kind: usize, coord: usize, comp: usize) -> usize
@@ -9,15 +12,22 @@ fn width_of(kind: usize, coord: usize, comp: usize) -> usize
     if kind < 2 { coord } else { comp }
 }
 
-pub fn fill(decode: &[f64], coord: usize, comp: usize, ranges: &mut [f64])
-    requires { length ranges.old ≡ 68 }
+fn fill(decode: &[f64], coord: usize, comp: usize, ranges: &mut [Range; 34])
     ensures { ranges.new ≡ range_list decode.now coord comp }
 {
-    let mut k: usize = 0;
-    while k < 34 {
-        let range = decode::decode_range(decode, k, width_of(k, coord, comp));
-        ranges[2 * k] = range.min;
-        ranges[2 * k + 1] = range.scale;
-        k += 1;
+    for kind in 0..34 {
+        ranges[kind] = decode::decode_range(decode, kind, width_of(kind, coord, comp));
+    }
+}
+
+impl Input<'_> {
+    // The ranges of x, of y, and of each component. The numbers of a list need none.
+    pub fn fill_ranges(&self, decode: &[f64], ranges: &mut [Range; 34])
+        ensures { ranges.new ≡ filled_ranges self.now.source (range_list decode.now self.now.layout.coord self.now.layout.comp) ranges.old }
+    {
+        match self.source {
+            Source::Bits(_) => fill(decode, self.layout.coord, self.layout.comp, ranges),
+            Source::List(_) => {}
+        }
     }
 }

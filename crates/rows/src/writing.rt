@@ -3,11 +3,25 @@ ghost use Rattle.std.specs.Prelude.{◌≡◌, [], ◌∷◌, ◌++◌, ◌+◌,
 ghost use Rattle.std.specs.Float.{nan};
 ghost use Rattle.lists.specs.Lists.{part};
 ghost use Rattle.lists.specs.Writing.{Written};
-ghost use Rattle.colour.specs.Colour.{colour_numbers, ink_numbers};
+ghost use Rattle.colour.specs.Colour.{colour_numbers};
 ghost use Rattle.rows.specs.Inner.Placing.{ten_numbers, row_beside, row_index, shared_rows};
 
-use crate::Vertex;
-use colour::{DeviceColor, Inks};
+use colour::{Cmyk, DeviceColor};
+
+// It goes by value. Its components stand beside it, in the output that gets its row.
+#[derive(Clone, Copy)]
+pub struct Vertex {
+    pub x: f64,
+    pub y: f64,
+    pub colour: DeviceColor,
+}
+
+const NO_INKS: Cmyk = Cmyk {
+    c: 0.0,
+    m: 0.0,
+    y: 0.0,
+    k: 0.0,
+};
 
 pub fn write_two(a: f64, b: f64, out: &mut [f64], at: usize) -> usize
     requires { at + 2 ≤ length out.old }
@@ -28,93 +42,57 @@ fn write_four(a: f64, b: f64, c: f64, d: f64, out: &mut [f64], at: usize) -> usi
     write_two(c, d, out, p)
 }
 
-// The five numbers that tell a colour's inks.
-#[derive(Clone, Copy)]
-struct InkNumbers {
-    mark: f64,
-    c: f64,
-    m: f64,
-    y: f64,
-    k: f64,
-}
-
-fn ink_numbers(inks: Inks) -> InkNumbers
-    ensures { result.mark ∷ result.c ∷ result.m ∷ result.y ∷ result.k ∷ [] ≡ ink_numbers inks }
-{
-    match inks {
-        Inks::None => InkNumbers {
-            mark: 0.0,
-            c: 0.0,
-            m: 0.0,
-            y: 0.0,
-            k: 0.0,
-        },
-        Inks::Cmyk(c, m, y, k) => InkNumbers {
-            mark: 1.0,
-            c,
-            m,
-            y,
-            k,
-        },
-    }
-}
-
 // r, g, b, mark, c, m, y, k.
 pub fn write_eight(colour: DeviceColor, out: &mut [f64], at: usize) -> usize
     requires { at + 8 ≤ length out.old }
     ensures value { result ≡ at + 8 }
     ensures written { Written out.old out.new at (colour_numbers colour) result }
 {
-    let inks = colour.inks;
-    let five = ink_numbers(inks);
-    let p = write_four(colour.r, colour.g, colour.b, five.mark, out, at);
-    write_four(five.c, five.m, five.y, five.k, out, p)
+    let (mark, inks) = match colour.inks {
+        Some(inks) => (1.0, inks),
+        None => (0.0, NO_INKS),
+    };
+    let p = write_four(colour.r, colour.g, colour.b, mark, out, at);
+    write_four(inks.c, inks.m, inks.y, inks.k, out, p)
 }
 
-// Numbers of a list, two at a time.
-pub fn write_part(values: &[f64], from: usize, n: usize, out: &mut [f64], at: usize) -> usize
-    requires { (from + n ≤ length values.now) × (at + n ≤ length out.old) }
-    ensures value { result ≡ at + n }
-    ensures written { Written out.old out.new at (part nan values.now from n) result }
+// Numbers two at a time. `copy_from_slice` stores them otherwise (see `copy_four`), and the archive calls no memcpy.
+pub fn write_part(values: &[f64], out: &mut [f64], at: usize) -> usize
+    requires { at + length values.now ≤ length out.old }
+    ensures value { result ≡ at + length values.now }
+    ensures written { Written out.old out.new at values.now result }
 {
-    let mut j: usize = 0;
-    while j + 1 < n {
-        let a = values[from + j];
-        let b = values[from + j + 1];
+    let n = values.len();
+    for pair in 0..n / 2 {
+        let j = 2 * pair;
+        let a = values[j];
+        let b = values[j + 1];
         out[at + j] = a;
         out[at + j + 1] = b;
-        j += 2;
     }
-    if j < n {
-        out[at + j] = values[from + j]; // the last of an odd count
+    if n % 2 == 1 {
+        let last = n - 1;
+        out[at + last] = values[last];
     }
     at + n
 }
 
-// Numbers that stand in out already, two at a time.
+// Numbers that stand in out already.
 pub fn copy_part(out: &mut [f64], from: usize, n: usize, at: usize) -> usize
-    requires { (from + n ≤ at) × (at + n ≤ length out.old) }
+    requires before { from + n ≤ at }
+    requires room { at + n ≤ length out.old }
     ensures value { result ≡ at + n }
     ensures written { Written out.old out.new at (part nan out.old from n) result }
 {
-    let mut j: usize = 0;
-    while j + 1 < n {
-        let a = out[from + j];
-        let b = out[from + j + 1];
-        out[at + j] = a;
-        out[at + j + 1] = b;
-        j += 2;
-    }
-    if j < n {
-        out[at + j] = out[from + j]; // the last of an odd count
-    }
-    at + n
+    let (before, rest) = out.split_at_mut(at);
+    at + write_part(&before[from..from + n], rest, 0)
 }
 
 // Half of a colour's eight numbers. A machine that has just stored two numbers together hands them on together, and single ones alone; so they are
 // taken here as they are stored.
 fn copy_four(out: &mut [f64], from: usize, at: usize) -> usize
-    requires { (from + 4 ≤ at) × (at + 4 ≤ length out.old) }
+    requires before { from + 4 ≤ at }
+    requires room { at + 4 ≤ length out.old }
     ensures value { result ≡ at + 4 }
     ensures written { Written out.old out.new at (part nan out.old from 4) result }
 {
@@ -125,7 +103,8 @@ fn copy_four(out: &mut [f64], from: usize, at: usize) -> usize
 
 // A colour's eight numbers and its n components.
 pub fn copy_colour(out: &mut [f64], from: usize, n: usize, at: usize) -> usize
-    requires { (from + (8 + n) ≤ at) × (at + (8 + n) ≤ length out.old) }
+    requires before { from + (8 + n) ≤ at }
+    requires room { at + (8 + n) ≤ length out.old }
     ensures value { result ≡ at + (8 + n) }
     ensures written { Written out.old out.new at (part nan out.old from (8 + n)) result }
 {
@@ -136,7 +115,8 @@ pub fn copy_colour(out: &mut [f64], from: usize, n: usize, at: usize) -> usize
 
 // The row of a vertex: two numbers and a colour.
 pub fn copy_row(out: &mut [f64], from: usize, n: usize, at: usize) -> usize
-    requires { (from + (10 + n) ≤ at) × (at + (10 + n) ≤ length out.old) }
+    requires before { from + (10 + n) ≤ at }
+    requires room { at + (10 + n) ≤ length out.old }
     ensures value { result ≡ at + (10 + n) }
     ensures written { Written out.old out.new at (part nan out.old from (10 + n)) result }
 {
@@ -152,25 +132,24 @@ fn write_vertex(vertex: Vertex, out: &mut [f64], at: usize) -> usize
     ensures value { result ≡ at + 10 }
     ensures written { Written out.old out.new at (ten_numbers vertex) result }
 {
-    let colour = vertex.colour;
     let p = write_two(vertex.x, vertex.y, out, at);
-    write_eight(colour, out, p)
+    write_eight(vertex.colour, out, p)
 }
 
 // Where its row begins, with or without a side.
 pub fn row_index(side: usize, n: usize, at: usize) -> usize
-    requires { (n ≤ 32) × (at ≤ 1152921504606846976) }
+    requires few { n ≤ 32 }
+    requires small { at ≤ 1152921504606846976 }
     ensures { result ≡ row_index side (10 + n) at }
 {
-    if side < at {
-        return at + 2 * (10 + n);
-    }
-    at
+    if side < at { at + 2 * (10 + n) } else { at }
 }
 
 // Writes the rows of a triangle that come with a vertex: its own, whose components stand beside it already, and before it the two of the side.
 pub fn write_corner(vertex: Vertex, side: usize, n: usize, out: &mut [f64], at: usize) -> usize
-    requires { (n ≤ 32) × (row_index side (10 + n) at + (10 + n) ≤ length out.old) × (side < at → side + (10 + n) ≤ at) }
+    requires few { n ≤ 32 }
+    requires room { row_index side (10 + n) at + (10 + n) ≤ length out.old }
+    requires before { side < at → side + (10 + n) ≤ at }
     ensures value { result ≡ row_index side (10 + n) at + (10 + n) }
     ensures written { Written out.old out.new at (shared_rows out.old side (10 + n) at ++ row_beside out.old (row_index side (10 + n) at) n vertex) result }
 {
@@ -179,7 +158,6 @@ pub fn write_corner(vertex: Vertex, side: usize, n: usize, out: &mut [f64], at: 
         let second = at - (10 + n);
         let p = copy_row(out, side, n, at);
         copy_row(out, second, n, p);
-        return end;
     }
     end
 }

@@ -1,61 +1,50 @@
 -- What a function that places numbers needs, and what it does: all of it where all is there that it needs, else nothing.
-use Rattle.std.specs.Prelude.{ℕ, ◌+◌, ◌-◌, ◌*◌, ◌≤◌, ◌≡◌, Bool, true, false, ◌&&◌, cond, List, [], ◌∷◌, ◌++◌, length, get_or, leb, ltb, eqb, Float}
+use Rattle.std.specs.Prelude.{ℕ, ◌+◌, ◌-◌, ◌*◌, Bool, ◌&&◌, cond, List, [], ◌∷◌, ◌++◌, get_or, leb, ltb, Float}
 use Rattle.std.specs.Float.{nan}
 use Rattle.lists.specs.Lists.{part}
-use Rattle.bits.specs.Reading.{readable}
-use Rattle.answers.specs.Limits.{most_components, most_bytes}
 use Rattle.colour.specs.Colour.{colour_of, colour_numbers}
-use Rattle.rows.specs.declared.Layout.{Layout}
-use Rattle.rows.specs.declared.Run.{Run}
-use Rattle.rows.specs.declared.Vertex.{Vertex}
+use Rattle.colour.specs.Inner.Places.{Numbers, components_at, vertex_at, points_at, colours_at}
+use Rattle.rows.specs.declared.Input.{Input}
+use Rattle.rows.specs.declared.Decoded.{Decoded}
+use Rattle.rows.specs.declared.writing.Vertex.{Vertex}
+use Rattle.rows.specs.Inner.Sources.{places, numbers_of, held_ranges}
+
+-- ---- what a reader takes from a place on
+
+abbrev pub numbers_in : Decoded → Numbers
+numbers_in d = numbers_of d.input.now.source (held_ranges d.ranges.now)
+
+-- k points, the components of a colour, k colours, a vertex
+abbrev pub points_in : Decoded → ℕ → ℕ → List Float
+points_in d = points_at (numbers_in d) d.input.now.layout.coord
+
+abbrev pub components_in : Decoded → ℕ → List Float
+components_in d = components_at (numbers_in d) d.input.now.layout.comp d.input.now.layout.n
+
+abbrev pub colours_in : Decoded → ℕ → ℕ → List Float
+colours_in d = colours_at (numbers_in d) d.input.now.layout.comp d.input.now.layout.n
+
+abbrev pub vertex_in : Decoded → ℕ → List Float
+vertex_in d = vertex_at (numbers_in d) d.input.now.layout.coord d.input.now.layout.comp d.input.now.layout.n
 
 -- ---- what is there
 
--- the widths and the count of components are those of a readable layout; in a list each number takes one place
-abbrev pub fair : Layout → Bool
-fair L =
-    cond L.listed
-    (leb L.n most_components && (eqb L.coord 1 && eqb L.comp 1))
-    (leb L.n most_components && (readable L.coord && readable L.comp))
+-- how many places a vertex takes
+abbrev pub vertex_places : Input → ℕ
+vertex_places I = 2 * I.layout.coord + I.layout.n * I.layout.comp
 
--- so many places from place p on are in the list, or in a slice that a reader accepts
-abbrev pub there : Layout → List ℕ → List Float → ℕ → ℕ → Bool
-there L s vs p size =
-    cond L.listed (leb (p + size) (length vs)) (leb (length s) most_bytes && leb (p + size) (8 * length s))
+-- k points are there whole, no more than a patch has, and an output of room elements has places for them from index at on
+unfoldable pub points_fit : Input → ℕ → ℕ → ℕ → ℕ → Bool
+points_fit I k p at room = leb k 16 && (leb (p + k * (2 * I.layout.coord)) (places I.source) && leb (at + 2 * k) room)
 
--- how many places points and colours take, and how many numbers their rows have
-abbrev pub run_places : Layout → Run → ℕ
-run_places L run = run.points * (2 * L.coord) + run.colours * (L.n * L.comp)
+-- the same of k colours and their rows
+unfoldable pub colours_fit : Input → ℕ → ℕ → ℕ → ℕ → Bool
+colours_fit I k p at room =
+    leb k 4 && (leb (p + k * (I.layout.n * I.layout.comp)) (places I.source) && leb (at + k * (8 + I.layout.n)) room)
 
-abbrev pub run_numbers : Layout → Run → ℕ
-run_numbers L run = 2 * run.points + run.colours * (8 + L.n)
-
--- points alone, colours alone
-abbrev pub points_alone : ℕ → Run
-points_alone k = record { points = k; colours = 0 }
-
-abbrev pub colours_alone : ℕ → Run
-colours_alone k = record { points = 0; colours = k }
-
--- the points and colours are there whole, no more than a patch has, and an output of room elements has places for their rows from index at on
-unfoldable pub run_fits : Layout → List ℕ → List Float → Run → ℕ → ℕ → ℕ → Bool
-run_fits L s vs run p at room =
-    fair L
-    && (leb run.points 16
-    && (leb run.colours 4
-    && (there L s vs p (run_places L run)
-    && leb (at + run_numbers L run) room)))
-
--- the lead numbers of a row and its n components, in the output from index from on and all before index at
-unfoldable pub copy_fits : ℕ → ℕ → ℕ → ℕ → ℕ → Bool
-copy_fits lead n from at room = leb n most_components && (leb (from + (lead + n)) at && leb (at + (lead + n)) room)
-
--- the same as facts: so many places from place p on
-pub record NumbersThere (L : Layout) (s : List ℕ) (vs : List Float) (p size : ℕ) : Type 0 where
-  pub n_few : L.n ≤ most_components
-  pub in_list : L.listed ≡ true → (L.coord ≡ 1) × (L.comp ≡ 1) × (p + size ≤ length vs)
-  pub in_bits : L.listed ≡ false
-      → (1 ≤ L.coord) × (L.coord ≤ 32) × (1 ≤ L.comp) × (L.comp ≤ 32) × (length s ≤ most_bytes) × (p + size ≤ 8 * length s)
+-- so many numbers stand in the output from index from on and all before index at, and there is room for them from there on
+abbrev pub copy_fits : ℕ → ℕ → ℕ → ℕ → Bool
+copy_fits size from at room = leb (from + size) at && leb (at + size) room
 
 -- ---- a vertex, and the side by which it is joined
 
@@ -79,19 +68,10 @@ shared_rows o side size at = cond (ltb side at) (part nan o side size ++ part na
 abbrev pub row_index : ℕ → ℕ → ℕ → ℕ
 row_index side size at = cond (ltb side at) (at + 2 * size) at
 
--- a vertex has few enough components, the side stands before index at, and an output of room elements has places for the rows from there on
+-- the side stands before index at, and an output of room elements has places from there on for its rows and one more, each of so many numbers
 unfoldable pub rows_fit : ℕ → ℕ → ℕ → ℕ → Bool
-rows_fit n side at room =
-    leb n most_components
-    && cond (ltb side at) (leb (side + (10 + n)) at && leb (at + 3 * (10 + n)) room) (leb (at + (10 + n)) room)
+rows_fit size side at room = cond (ltb side at) (leb (side + size) at && leb (at + 3 * size) room) (leb (at + size) room)
 
--- the bits of a vertex from place p on are there, in a slice that a reader accepts
-unfoldable pub bits_fit : Layout → List ℕ → ℕ → Bool
-bits_fit L s p =
-    readable L.coord
-    && (readable L.comp && (leb (length s) most_bytes && leb (p + (2 * L.coord + L.n * L.comp)) (8 * length s)))
-
--- all of that; in a list each number takes one place
-abbrev pub corner_fits : Layout → List ℕ → List Float → ℕ → ℕ → ℕ → ℕ → Bool
-corner_fits L s vs p side at room =
-    rows_fit L.n side at room && cond L.listed (leb (p + (2 + L.n)) (length vs)) (bits_fit L s p)
+-- all of that, and the vertex is there whole
+abbrev pub corner_fits : Input → ℕ → ℕ → ℕ → ℕ → Bool
+corner_fits I p side at room = rows_fit (10 + I.layout.n) side at room && leb (p + vertex_places I) (places I.source)

@@ -1,26 +1,21 @@
--- `rows::ranges::fill` meets its contract: after k turns the list begins with the ranges of the kinds below k. Assumes nothing.
-use mathlib.Core.Path.{◌≡◌, refl}
-use native.Mathlib.Omega.{arith}
-use lib.ListN.{length-set}
-use Rattle.lists.proofs.Writing.{written_start}
+-- `rows::ranges::fill` meets its contract: at each kind the list begins with the ranges of those before it. Assumes nothing.
+use Rattle.std.proofs.Common.{arith, ◌∙◌, ap}
+use Rattle.lists.proofs.Writing.{written_store}
 use Rattle.lists.proofs.Parts.{written_whole}
-use Rattle.rows.specs.Inner.Layouts.{range_list}
-use Rattle.rows.proofs.Held.{ranges_more}
-use borrow.Author.Rules.{rules}
+use Rattle.decode.specs.Decode.{ranges, range_of}
+use Rattle.rows.specs.Inner.Sources.{range_list}
+use Rattle.rows.proofs.Loops.{loop_begins, loop_ends}
 use Rattle.rows.proofs.ranges.fill.Goals as goal
 
-pub loop-k-init : goal.loop-k-init
-loop-k-init c = (search rules, refl, written_start _ _ _ (omega arith))
+pub loop-kind-init : goal.loop-kind-init
+loop-kind-init c = loop_begins _ (omega arith) (omega arith)
 
-pub loop-k-preserved : goal.loop-k-preserved
-loop-k-preserved c =
-    let l = c.loop-k in
+pub loop-kind-preserved : goal.loop-kind-preserved
+loop-kind-preserved c =
     let a = c.args in
-    (search rules, simp length-set l.invariant.1, ranges_more a.decode.now a.coord a.comp l.k _ _ c.decode_range-range.ensures c.width_of.ensures (omega arith) l.invariant.2)
+    let kind = c.loop-kind.kind in
+    written_store kind (ranges a.decode.now a.coord a.comp) c.loop-kind.invariant (omega arith) (c.decode_range.ensures ∙ ap (range_of a.decode.now kind) c.width_of.ensures)
 
 pub returns : goal.returns
 unfolding range_list
-returns c =
-    let l = c.loop-k in
-    let e : l.k ≡ 34 = omega arith in
-    written_whole (rw e at l.invariant.2) (omega arith)
+returns c = written_whole {p = 34} (loop_ends _ c.loop-kind.invariant (omega arith) (omega arith)) (omega arith)

@@ -6,10 +6,10 @@ pub returns-then-side-at-clause-written : goal.returns-then-side-at-clause-writt
 returns-then-side-at-clause-written c =
     let taken = c.if-side-at.true in
     let a = c.args in
-    corner_joined a.vertex a.n a.side a.at (rw c.row_index.ensures at c.write_vertex.ensures.written) c.requires.1 taken (c.requires.2 taken) c.copy_row-p.ensures.written
+    corner_joined a.vertex a.n a.side a.at (rw c.row_index.ensures at c.write_vertex.ensures.written) c.requires.room taken (c.requires.before taken) c.copy_row-p.ensures.written
     c.copy_row.ensures.written
 
-pub returns-clause-written : goal.returns-clause-written
-returns-clause-written c =
+pub returns-else-side-at-clause-written : goal.returns-else-side-at-clause-written
+returns-else-side-at-clause-written c =
     let a = c.args in
-    corner_alone a.vertex a.n a.side a.at (rw c.row_index.ensures at c.write_vertex.ensures.written) c.requires.1 c.if-side-at.false
+    corner_alone a.vertex a.n a.side a.at (rw c.row_index.ensures at c.write_vertex.ensures.written) c.requires.room c.if-side-at.false
