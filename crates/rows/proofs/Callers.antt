@@ -11,39 +11,42 @@ use Rattle.lists.proofs.Pieces.{length_part}
 use Rattle.lists.proofs.Placing.{placed_written, placed_sized}
 use Rattle.bits.proofs.Answers.{answer_number}
 use Rattle.decode.specs.Decode.{flag_of}
+use Rattle.colour.specs.Inner.Places.{Numbers, vertex_at, points_at, colours_at}
 use Rattle.colour.proofs.Lengths.{length-vertex_at, length-points_at, length-colours_at}
 use Rattle.rows.specs.declared.Source.{Source}
 use Rattle.rows.specs.declared.Source.TheVariants.{Bits, List as Listed}
-use Rattle.rows.specs.declared.Decoded.{Decoded}
+use Rattle.rows.specs.declared.Input.{Input}
 use Rattle.rows.specs.Inner.Sources.{places, masked, mask_in, flag_in, flag_at}
-use Rattle.rows.specs.Inner.Placing.{numbers_in, points_in, colours_in, vertex_in, points_fit, colours_fit, copy_fits, corner_fits, vertex_places, shared_rows, row_index}
+use Rattle.rows.specs.Inner.Placing.{points_fit, colours_fit, copy_fits, corner_fits, vertex_places, shared_rows, row_index}
 use Rattle.rows.proofs.Masks.{whole_masked, flag_below}
 use Rattle.rows.proofs.Fits.{points_fit_iff, colours_fit_iff, copy_fits_iff, corner_fits_lem}
 use Rattle.rows.proofs.Corners.{shared_end}
 
-module _ (d : Decoded) {entry exit : List Float} {at next : ℕ} where
-  pub points_written : (k p : ℕ) → Placed (points_fit d.input.now k p at (length entry)) entry exit at (points_in d k p) next
-      → k ≤ 16 → p + k * (2 * d.input.now.layout.coord) ≤ places d.input.now.source → at + 2 * k ≤ length entry
-      → (next ≡ at + 2 * k) × Written entry exit at (points_in d k p) next
+-- what is taken from an input, whose numbers are N
+module _ (I : Input) (N : Numbers) {entry exit : List Float} {at next : ℕ} where
+  pub points_written : (k p : ℕ) → Placed (points_fit I k p at (length entry)) entry exit at (points_at N I.layout.coord k p) next
+      → k ≤ 16 → p + k * (2 * I.layout.coord) ≤ places I.source → at + 2 * k ≤ length entry
+      → (next ≡ at + 2 * k) × Written entry exit at (points_at N I.layout.coord k p) next
   points_written k p w few there room =
-      placed_sized (2 * k) w ((points_fit_iff d.input.now k p at (length entry)).1 (few, (there, room))) (length-points_at _ _ _ _) room
+      placed_sized (2 * k) w ((points_fit_iff I k p at (length entry)).1 (few, (there, room))) (length-points_at _ _ _ _) room
 
-  pub colours_written : (k p : ℕ) → Placed (colours_fit d.input.now k p at (length entry)) entry exit at (colours_in d k p) next
-      → k ≤ 4 → p + k * (d.input.now.layout.n * d.input.now.layout.comp) ≤ places d.input.now.source → at + k * (8 + d.input.now.layout.n) ≤ length entry
-      → (next ≡ at + k * (8 + d.input.now.layout.n)) × Written entry exit at (colours_in d k p) next
+  pub colours_written : (k p : ℕ) → Placed (colours_fit I k p at (length entry)) entry exit at (colours_at N I.layout.comp I.layout.n k p) next
+      → k ≤ 4 → p + k * (I.layout.n * I.layout.comp) ≤ places I.source → at + k * (8 + I.layout.n) ≤ length entry
+      → (next ≡ at + k * (8 + I.layout.n)) × Written entry exit at (colours_at N I.layout.comp I.layout.n k p) next
   colours_written k p w few there room =
-      placed_sized (k * (8 + d.input.now.layout.n)) w ((colours_fit_iff d.input.now k p at (length entry)).1 (few, (there, room))) (length-colours_at _ _ _ _ _) room
+      placed_sized (k * (8 + I.layout.n)) w ((colours_fit_iff I k p at (length entry)).1 (few, (there, room))) (length-colours_at _ _ _ _ _) room
 
   pub corner_placed : (p side : ℕ)
-      → Placed (corner_fits d.input.now p side at (length entry)) entry exit at (shared_rows entry side (10 + d.input.now.layout.n) at ++ vertex_in d p) next
-      → p + vertex_places d.input.now ≤ places d.input.now.source
-      → row_index side (10 + d.input.now.layout.n) at + (10 + d.input.now.layout.n) ≤ length entry
-      → (side < at → side + (10 + d.input.now.layout.n) ≤ at)
-      → Written entry exit at (shared_rows entry side (10 + d.input.now.layout.n) at ++ vertex_in d p) next
+      → Placed (corner_fits I p side at (length entry)) entry exit at (shared_rows entry side (10 + I.layout.n) at ++ vertex_at N I.layout.coord I.layout.comp I.layout.n p) next
+      → p + vertex_places I ≤ places I.source
+      → row_index side (10 + I.layout.n) at + (10 + I.layout.n) ≤ length entry
+      → (side < at → side + (10 + I.layout.n) ≤ at)
+      → Written entry exit at (shared_rows entry side (10 + I.layout.n) at ++ vertex_at N I.layout.coord I.layout.comp I.layout.n p) next
   corner_placed p side w there room before =
-      let size : ℕ = 10 + d.input.now.layout.n in
-      placed_written w (corner_fits_lem d.input.now p side at (length entry) room before there)
-      (omega (arith, length-append (shared_rows entry side size at) (vertex_in d p), shared_end entry side size at, length-vertex_at (numbers_in d) d.input.now.layout.coord d.input.now.layout.comp d.input.now.layout.n p))
+      let size : ℕ = 10 + I.layout.n in
+      let vertex : List Float = vertex_at N I.layout.coord I.layout.comp I.layout.n p in
+      placed_written w (corner_fits_lem I p side at (length entry) room before there)
+      (omega (arith, length-append (shared_rows entry side size at) vertex, shared_end entry side size at, length-vertex_at N I.layout.coord I.layout.comp I.layout.n p))
 
 -- what is left of a flag by the mask is what it means; that of a list is left whole
 pub flag_there : (S : Source) (mask width p : ℕ) → mask ≡ mask_in S mask → 1 ≤ width → width ≤ 32 → places S ≤ 134217728 → p + width ≤ places S

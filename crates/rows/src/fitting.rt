@@ -32,15 +32,21 @@ fn rows_fit(size: usize, side: usize, at: usize, room: usize) -> bool
 }
 
 impl Input<'_> {
+    // How many places there are.
+    pub fn places(&self) -> usize
+        ensures { result ≡ places self.now.source }
+    {
+        match self.source {
+            Source::Bits(bytes) => 8 * bytes.len(),
+            Source::List(values) => values.len(),
+        }
+    }
+
     // Whether so many places from a place on are there.
     fn has(&self, place: Place, size: usize) -> bool
         ensures { result ≡ leb (place.0 + size) (places self.now.source) }
     {
-        let places = match self.source {
-            Source::Bits(bytes) => 8 * bytes.len(),
-            Source::List(values) => values.len(),
-        };
-        has_room(place.0, size, places)
+        has_room(place.0, size, self.places())
     }
 
     // Whether a vertex is there, and the rows that come with it have room.
