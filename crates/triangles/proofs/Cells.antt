@@ -5,12 +5,13 @@ use mathlib.Core.Bool.{Bool, true, false, cond}
 use mathlib.Core.Logic.{inl, inr}
 use mathlib.Core.List.{List, [], ◌++◌, append-nil, append_assoc}
 use native.Mathlib.Omega.{arith}
-use native.Mathlib.Nat.{mul-le-mul_left, mul-le-mul_right, mul_comm, suc-mul, zero-mul, mul-le-mul, div-mul-le_self}
+use native.Mathlib.Nat.{mul-le-mul_left, mul-le-mul_right, mul_comm, suc-mul, mul-le-mul, div-mul-le_self}
 use borrow.Author.Tests.{ltb-true, ltb-false}
 use lib.ListN.{length, take, drop, length-append}
 use lib.Seq.{length-take-le}
 use lib.Dec.{ltb}
 use lib.Ieee.{Float, nan}
+use Rattle.std.specs.Prelude.{Option, Some, None}
 use Rattle.lists.specs.Lists.{joined, part, flat}
 use Rattle.lists.specs.Writing.{put, Written}
 use Rattle.lists.proofs.Pieces.{length-joined, joined_same, part_middle, flat_joined}
@@ -21,7 +22,7 @@ use Rattle.rules.specs.Lattice.{cell, lattice}
 use Rattle.rules.proofs.Lattice.{lattice_count, lattice_none}
 use Rattle.meshes.proofs.Parts.{part_first, part_second, part_of_piece}
 use Rattle.triangles.specs.Inner.Vertices.{RowStands}
-use Rattle.triangles.specs.Inner.Cells.{cell_numbers, cells_numbers, Above}
+use Rattle.triangles.specs.Inner.Cells.{Known, cell_numbers, cells_numbers, Above}
 
 -- a row that stands before the place that was written still stands
 pub stands_on : {o o' : List Float} {from size at p : ℕ} {xs row : List Float} → RowStands o from size at row → Written o o' at xs p → RowStands o' from size p row
@@ -34,11 +35,16 @@ band_enough size {row} h =
     let n : 1 ≤ row - 1 = omega arith in
     omega (arith, mul-le-mul_left (6 * size) n)
 
--- an index below the output's length is where the row stands
-pub stands_or : (there : Bool) (x nowhere : ℕ) {o : List Float} {from size at : ℕ} {row : List Float} → from ≡ cond there x nowhere → length o ≡ nowhere
-    → (there ≡ true → RowStands o x size at row) → from < length o → RowStands o from size at row
-stands_or true x nowhere e n h b = rw e (h refl)
-stands_or false x nowhere e n h b = absurd (omega arith)
+-- nor is it known less
+pub known_on : (from : Option ℕ) (size : ℕ) (row : List Float) {o o' : List Float} {at p : ℕ} {xs : List Float} → Known o from size at row → Written o o' at xs p
+    → Known o' from size p row
+known_on (Some from) size row h w = stands_on h w
+known_on None size row h w = h
+
+pub known_if : (there : Bool) (x : ℕ) {from : Option ℕ} {o : List Float} {size at : ℕ} {row : List Float} → from ≡ cond there (Some x) None
+    → (there ≡ true → RowStands o x size at row) → Known o from size at row
+known_if true x e h = rw e (h refl)
+known_if false x e h = rw e tt
 
 -- a part of what was written
 written_inside : {l o : List Float} {at p : ℕ} {xs : List Float} (from k : ℕ) → Written l o at xs p → from + k ≤ length xs
@@ -195,15 +201,14 @@ module _ (vertex : ℕ → List Float) (size : ℕ) (sized : (i : ℕ) → lengt
   unfolding cells_numbers
   length-band row r = length-cells row (r * row) (row - 1) ∙ mul_comm (row - 1) (6 * size)
 
-  pub record Bands (l o : List Float) (p row first r : ℕ) : Type 0 where
+  pub record Bands (l o : List Float) (p row r : ℕ) : Type 0 where
     pub written : Written l o 0 (joined r (band row)) p
     pub same : length o ≡ length l
-    pub begins : first ≡ r * row
 
-  pub bands_start : (l : List Float) (row : ℕ) → Bands l l 0 row 0 0
-  bands_start l row = record { written = written_start l 0 _ (omega arith); same = refl; begins = sym (zero-mul row) }
+  pub bands_start : (l : List Float) (row : ℕ) → Bands l l 0 row 0
+  bands_start l row = record { written = written_start l 0 _ (omega arith); same = refl }
 
-  module _ {l o : List Float} {p row first r : ℕ} (k : Bands l o p row first r) where
+  module _ {l o : List Float} {p row r : ℕ} (k : Bands l o p row r) where
     pub bands_place : p ≡ r * (6 * size * (row - 1))
     bands_place = omega (arith, k.written.after, length-joined r (6 * size * (row - 1)) (band row) (length-band row))
 
@@ -213,13 +218,8 @@ module _ (vertex : ℕ → List Float) (size : ℕ) (sized : (i : ℕ) → lengt
         let n : r + 1 ≤ rows - 1 = omega arith in
         omega (arith, bands_place, mul-le-mul_right (6 * size * (row - 1)) n)
 
-    pub bands_more : {o' : List Float} {q : ℕ} → Written o o' p (cells_numbers vertex row first) q → Bands l o' q row (first + row) (r + 1)
-    bands_more w =
-        record {
-          written = written_more r (band row) k.written (rw k.begins at w);
-          same = written_length w ∙ k.same;
-          begins = omega (arith, k.begins, suc-mul r row);
-        }
+    pub bands_more : {o' : List Float} {q : ℕ} → Written o o' p (cells_numbers vertex row (r * row)) q → Bands l o' q row (r + 1)
+    bands_more w = record { written = written_more r (band row) k.written w; same = written_length w ∙ k.same }
 
   -- in a band, the fifth row of cell c
   band_row : (row r c : ℕ) → c + 1 < row → part nan (band row r) (c * (6 * size) + 4 * size) size ≡ vertex (r * row + c + row + 1)
@@ -230,9 +230,9 @@ module _ (vertex : ℕ → List Float) (size : ℕ) (sized : (i : ℕ) → lengt
       ∙ fifth_row row (r * row + c)
 
   -- the band before has what stands above
-  pub bands_above : {l o : List Float} {p row first : ℕ} (r : ℕ) → 0 < first → Bands l o p row first r → Above vertex o size row first p
-  bands_above {l} {o} {p} {row} {first} zero h k = absurd (omega (arith, k.begins))
-  bands_above {l} {o} {p} {row} {first} (suc r) h k =
+  pub bands_above : {l o : List Float} {p row : ℕ} (r : ℕ) → 0 < r * row → Bands l o p row r → Above vertex o size row (r * row) p
+  bands_above {l} {o} {p} {row} zero h k = absurd (omega arith)
+  bands_above {l} {o} {p} {row} (suc r) h k =
       let b : ℕ = 6 * size * (row - 1) in
       let e = bands_place k in
       let x : p ≡ r * b + b = e ∙ suc-mul r b in
@@ -242,7 +242,7 @@ module _ (vertex : ℕ → List Float) (size : ℕ) (sized : (i : ℕ) → lengt
             let n : c + 1 ≤ row - 1 = omega arith in
             let m : c * (6 * size) + 6 * size ≤ b = omega (arith, mul-le-mul_right (6 * size) n, mul_comm (6 * size) (row - 1)) in
             let y : p - b + (c * (6 * size) + 4 * size) ≡ 0 + (r * b + (c * (6 * size) + 4 * size)) = omega arith in
-            let v : r * row + c + row + 1 ≡ first + c + 1 = omega (arith, k.begins, suc-mul r row) in
+            let v : r * row + c + row + 1 ≡ suc r * row + c + 1 = omega (arith, suc-mul r row) in
             let whole = length-joined (suc r) b (band row) (length-band row) in
             rw y
             (written_inside (r * b + (c * (6 * size) + 4 * size)) size k.written (omega (arith, suc-mul r b))

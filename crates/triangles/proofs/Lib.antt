@@ -3,3 +3,4 @@ pub mod Counting
 pub mod Writing
 pub mod Cells
 pub mod Ends
+pub mod Refusing

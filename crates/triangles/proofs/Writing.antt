@@ -1,7 +1,7 @@
 -- The rows of the triangles that the vertices so far have given, and where the three stand from which to go on. Assumes nothing.
 use Prim.Native.Nat.{ℕ, ◌+◌, ◌-◌, ◌*◌, ◌≤◌, ◌<◌}
 use mathlib.Core.Path.{◌≡◌, refl, sym, ◌∙◌}
-use mathlib.Core.Bool.{Bool, true, false, ◌&&◌, cond}
+use mathlib.Core.Bool.{Bool, true, false, cond}
 use mathlib.Core.List.{List, [], ◌∷◌, ◌++◌, append-nil, append_assoc}
 use mathlib.Core.Option.{Option, none, some}
 use mathlib.Core.Logic.{⊎_elim}
@@ -14,18 +14,21 @@ use Rattle.lists.specs.Lists.{part, flat}
 use Rattle.lists.specs.Writing.{Written}
 use Rattle.lists.proofs.Pieces.{length-flat, flat_more}
 use Rattle.lists.proofs.Writing.{written_length, written_none, written_then, written_part, part_before}
-use Rattle.rules.specs.Triangles.{Tri, tri, Rule, triangles, corners}
+use Rattle.rules.specs.Triangles as T
+use Rattle.rules.specs.Triangles.{Tri, tri, triangle_before, triangles, corners}
 use Rattle.rules.proofs.Walks.{Walk, kept_of, walk_start, walk_end, walk_first, walk_cut, walk_bc, walk_ac, walk_alone, walk_far, walk_room}
 use Rattle.rules.proofs.TwoRules.{counts_equal}
+use Rattle.triangles.specs.declared.free_form.Rule.{Rule}
+use Rattle.triangles.specs.declared.free_form.Rule.TheVariants.{TriangleBefore, LastThree}
 use Rattle.triangles.specs.declared.vertices.Vertices.{Vertices}
-use Rattle.triangles.specs.Inner.Vertices.{RowStands, flag_of_vertex, rule_of, triangles_in}
+use Rattle.triangles.specs.Inner.Vertices.{RowStands, flag_of_vertex, rule_of, triangles_in, kept_index}
 use Rattle.triangles.proofs.Counting.{flag_list, length-flags, flag_here, one_or_two}
 
 -- both rules give equally many triangles
-pub same_count : (last : Bool) (v : Vertices) (s : List ℕ) (vs : List Float) → length (triangles_in false v s vs) ≡ length (triangles_in last v s vs)
+pub same_count : (rule : Rule) (v : Vertices) → length (triangles_in triangle_before v) ≡ length (triangles_in (rule_of rule) v)
 unfolding triangles_in
-same_count false v s vs = refl
-same_count true v s vs = sym (counts_equal (flag_list (flag_of_vertex v s vs) v.total))
+same_count TriangleBefore v = refl
+same_count LastThree v = sym (counts_equal (flag_list (flag_of_vertex v) v.total))
 
 module _ (row : ℕ → List Float) (size : ℕ) (sized : (i : ℕ) → length (row i) ≡ size) where
   length-corners : (t : Tri) → length (corners row t) ≡ 3 * size
@@ -69,15 +72,15 @@ module _ (row : ℕ → List Float) (size : ℕ) (sized : (i : ℕ) → length (
         vc = record { before = omega arith; held = written_part nan ((f ++ a) ++ b) c [] (q - size) size v₃ (omega arith) lc };
       }
 
-  not_two : (last : Bool) (x y : ℕ) → cond (last && false) x y ≡ y
-  not_two true x y = refl
-  not_two false x y = refl
+  not_two : (rule : Rule) (p : ℕ) → kept_index rule 1 size p ≡ p
+  not_two TriangleBefore p = refl
+  not_two LastThree p = refl
 
   -- after flag 2 va is that of the triangle before, or vb
-  kept_after_two : (last : Bool) {o o' : List Float} {p q first : ℕ} {xs : List Float} (t : Tri) (i : ℕ) → Three o p first t → Written o o' p xs q
-      → Three o' q p (tri t.a t.c i) → Three o' q (cond (last && true) (p - 2 * size) p) (kept_of (rule_of last) t i)
-  kept_after_two false t i k x new = new
-  kept_after_two true {o} {o'} {p} {q} {first} {xs} t i k x new =
+  kept_after_two : (rule : Rule) {o o' : List Float} {p q first : ℕ} {xs : List Float} (t : Tri) (i : ℕ) → Three o p first t → Written o o' p xs q
+      → Three o' q p (tri t.a t.c i) → Three o' q (kept_index rule 2 size p) (kept_of (rule_of rule) t i)
+  kept_after_two TriangleBefore t i k x new = new
+  kept_after_two LastThree {o} {o'} {p} {q} {first} {xs} t i k x new =
       let n = k.enough in
       let m = new.va.before in
       record {
@@ -91,9 +94,9 @@ module _ (row : ℕ → List Float) (size : ℕ) (sized : (i : ℕ) → length (
         vc = new.vc;
       }
 
-  module _ (last : Bool) (flag : ℕ → ℕ) (total : ℕ) where
-    abbrev rule : Rule
-    rule = rule_of last
+  module _ (named : Rule) (flag : ℕ → ℕ) (total : ℕ) where
+    abbrev rule : T.Rule
+    rule = rule_of named
 
     abbrev fs : List ℕ
     fs = flag_list flag total
@@ -224,7 +227,7 @@ module _ (row : ℕ → List Float) (size : ℕ) (sized : (i : ℕ) → length (
             }
 
         pub joined_done : {o' : List Float} {q f side first' : ℕ} → f ≡ flag i → side ≡ cond (eqb f 1) (p - 2 * size) first
-            → first' ≡ cond (last && eqb f 2) (p - 2 * size) p
+            → first' ≡ kept_index named f size p
             → Written o o' p (part nan o side size ++ (part nan o (p - size) size ++ row i)) q → Writing l o' q (i + 1) first'
         unfolding corners
         joined_done {o'} {q} {f} {side} {first'} g es ef x =
@@ -233,15 +236,15 @@ module _ (row : ℕ → List Float) (size : ℕ) (sized : (i : ℕ) → length (
             joined_by b
             (λ (e : flag i ≡ 1) v.
             let s : side ≡ p - 2 * size = rw (g, e) at es in
-            let k₁ : first' ≡ p = rw (g, e) at ef ∙ not_two last (p - 2 * size) p in
+            let k₁ : first' ≡ p = rw (g, e) at ef ∙ not_two named p in
             let y : Written o o' p (corners row (tri b.t.b b.t.c i)) q = rw (s, k.vb.held, k.vc.held) at x in
             rw k₁ (gives (i + 1) (tri b.t.b b.t.c i) (some (tri b.t.b b.t.c i)) (omega arith) v y (λ m. m)))
             (λ (e : flag i ≡ 2) v.
             let s : side ≡ first = rw (g, e) at es in
-            let k₁ : first' ≡ cond (last && true) (p - 2 * size) p = rw (g, e) at ef in
+            let k₁ : first' ≡ kept_index named 2 size p = rw (g, e) at ef in
             let y : Written o o' p (corners row (tri b.t.a b.t.c i)) q = rw (s, k.va.held, k.vc.held) at x in
             rw k₁
-            (gives (i + 1) (tri b.t.a b.t.c i) (some (kept_of rule b.t i)) (omega arith) v y (kept_after_two last b.t i k y)))
+            (gives (i + 1) (tri b.t.a b.t.c i) (some (kept_of rule b.t i)) (omega arith) v y (kept_after_two named b.t i k y)))
 
       -- ---- a vertex that is dropped
 

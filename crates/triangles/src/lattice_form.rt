@@ -1,180 +1,139 @@
 // Type 5: the cells of a lattice, in row order. A vertex that an earlier cell has is copied from there inside out, but at the left edge and above
 // the first row of cells; the others are read.
-ghost use Rattle.std.specs.Prelude.{◌≡◌, ◌+◌, ◌-◌, ◌*◌, ◌/◌, ◌≤◌, ◌<◌, true, cond, length, ltb};
+ghost use Rattle.std.specs.Prelude.{◌≡◌, ◌+◌, ◌-◌, ◌*◌, ◌/◌, ◌≤◌, ◌<◌, true, cond, length, ltb, Some, None};
 ghost use Rattle.lists.specs.Lists.{joined};
 ghost use Rattle.lists.specs.Writing.{Written};
 ghost use Rattle.answers.specs.Outcome.{Done};
-ghost use Rattle.rows.specs.Inner.Layouts.{held_ranges, range_list};
+ghost use Rattle.rows.specs.Inner.Sources.{held_ranges, range_list};
 ghost use Rattle.rules.specs.Lattice.{lattice};
 ghost use Rattle.rules.specs.Meshes.{finished};
 ghost use Rattle.meshes.specs.Outcomes.{fitted_mesh};
-ghost use Rattle.triangles.specs.Inner.Vertices.{VerticesThere, row_of_vertex, RowStands};
-ghost use Rattle.triangles.specs.Inner.Cells.{cell_numbers, cells_numbers, Above};
+ghost use Rattle.triangles.specs.Inner.Vertices.{row_size, row_in, row_of_vertex, RowStands};
+ghost use Rattle.triangles.specs.Inner.Cells.{Known, cell_numbers, cells_numbers, Above};
 
-use crate::vertices::{Vertices, copy_row, write_vertex};
+use crate::vertices::{Rows, Vertices};
 use answers::{Answer, Refusal};
 
 // How many rows the vertices make: none where a row has under two.
 fn lattice_rows(total: usize, row: usize) -> usize
     ensures { result ≡ cond (ltb row 2) 0 (total / row) }
 {
-    if row < 2 {
-        return 0;
-    }
-    total / row
+    if row < 2 { 0 } else { total / row }
 }
 
-// Where a row stands that an earlier cell has; `nowhere` where none has it.
-fn back_from(there: bool, at: usize, back: usize, nowhere: usize) -> usize
+// Where a row stands, so many numbers before index at, that an earlier cell has.
+fn back_from(there: bool, at: usize, back: usize) -> Option<usize>
     requires { there ≡ true → back ≤ at }
-    ensures { result ≡ cond there (at - back) nowhere }
+    ensures { result ≡ cond there (Some (at - back)) None }
 {
-    if there {
-        return at - back;
-    }
-    nowhere
+    if there { Some(at - back) } else { None }
 }
 
-// The row of vertex i, copied from index `from` of out where it stands there already. Where it stands nowhere, `from` is no index before `at`.
-fn write_row(
-    data: &[u8],
-    values: &[f64],
-    vertices: Vertices,
-    ranges: &[f64; 68],
-    i: usize,
-    from: usize,
-    out: &mut [f64],
-    at: usize,
-) -> usize
-    requires { VerticesThere vertices «data».now values.now × (i < vertices.total) × (at + (vertices.layout.n + 10) ≤ length out.old) × (from < at → RowStands out.old from (vertices.layout.n + 10) at (row_of_vertex vertices «data».now values.now (held_ranges ranges.now) i)) }
-    ensures value { result ≡ at + (vertices.layout.n + 10) }
-    ensures written { Written out.old out.new at (row_of_vertex vertices «data».now values.now (held_ranges ranges.now) i) result }
-{
-    if from < at {
-        return copy_row(vertices.layout.n, from, out, at);
-    }
-    write_vertex(data, values, vertices, ranges, i, out, at)
-}
-
-// A cell of rows of so many vertices: its first vertex i, and where the rows of i, of i + 1 and of j, the vertex below i, stand in out already. A row
-// that does not stand there has an index past the end.
+// A cell of rows of so many vertices: its first vertex i, and where the rows of i, of i + 1 and of j, the vertex below i, stand in out already.
 #[derive(Clone, Copy)]
 struct Cell {
     row: usize,
     i: usize,
-    left: usize,
-    above: usize,
-    below: usize,
+    left: Option<usize>,
+    above: Option<usize>,
+    below: Option<usize>,
 }
 
-// The rows i, i + 1, j, i + 1, j + 1, j.
-fn write_cell(
-    data: &[u8],
-    values: &[f64],
-    vertices: Vertices,
-    ranges: &[f64; 68],
-    cell: Cell,
-    out: &mut [f64],
-    at: usize,
-) -> usize
-    requires { VerticesThere vertices «data».now values.now × (cell.i + cell.row + 1 < vertices.total) × (at + 6 * (vertices.layout.n + 10) ≤ length out.old) × (cell.left < length out.old → RowStands out.old cell.left (vertices.layout.n + 10) at (row_of_vertex vertices «data».now values.now (held_ranges ranges.now) cell.i)) × (cell.above < length out.old → RowStands out.old cell.above (vertices.layout.n + 10) at (row_of_vertex vertices «data».now values.now (held_ranges ranges.now) (cell.i + 1))) × (cell.below < length out.old → RowStands out.old cell.below (vertices.layout.n + 10) at (row_of_vertex vertices «data».now values.now (held_ranges ranges.now) (cell.i + cell.row))) }
-    ensures value { result ≡ at + 6 * (vertices.layout.n + 10) }
-    ensures written { Written out.old out.new at (cell_numbers (row_of_vertex vertices «data».now values.now (held_ranges ranges.now)) cell.row cell.i) result }
-{
-    let n = vertices.layout.n;
-    let i = cell.i;
-    let j = i + cell.row;
-    let p = write_row(data, values, vertices, ranges, i, cell.left, out, at);
-    let q = write_row(data, values, vertices, ranges, i + 1, cell.above, out, p);
-    let s = write_row(data, values, vertices, ranges, j, cell.below, out, q);
-    let t = copy_row(n, p, out, s);
-    let u = write_vertex(data, values, vertices, ranges, j + 1, out, t);
-    copy_row(n, q, out, u)
-}
-
-// The cells between the row of vertices that begins with vertex `first` and the next.
-fn write_cells(
-    data: &[u8],
-    values: &[f64],
-    vertices: Vertices,
-    ranges: &[f64; 68],
-    row: usize,
-    first: usize,
-    out: &mut [f64],
-    at: usize,
-) -> usize
-    requires { VerticesThere vertices «data».now values.now × (2 ≤ row) × (first + 2 * row ≤ vertices.total) × (at + 6 * (vertices.layout.n + 10) * (row - 1) ≤ length out.old) × (0 < first → Above (row_of_vertex vertices «data».now values.now (held_ranges ranges.now)) out.old (vertices.layout.n + 10) row first at) }
-    ensures value { result ≡ at + 6 * (vertices.layout.n + 10) * (row - 1) }
-    ensures written { Written out.old out.new at (cells_numbers (row_of_vertex vertices «data».now values.now (held_ranges ranges.now)) row first) result }
-{
-    let size = vertices.layout.n + 10;
-    let nowhere = out.len();
-    let back = 6 * size * (row - 1) - 4 * size;
-    let mut p = at;
-    let mut c: usize = 0;
-    while c + 1 < row {
-        let i = first + c;
-        let cell = Cell {
-            row,
-            i,
-            left: back_from(c > 0, p, 5 * size, nowhere),
-            above: back_from(first > 0, p, back, nowhere),
-            below: back_from(c > 0, p, 2 * size, nowhere),
-        };
-        p = write_cell(data, values, vertices, ranges, cell, out, p);
-        c += 1;
+impl Rows<'_> {
+    // The row of vertex i, copied from where it stands in out already.
+    fn write_row(self, i: usize, from: Option<usize>, out: &mut [f64], at: usize) -> usize
+        requires there { i < self.vertices.now.total }
+        requires room { at + row_size self.vertices.now ≤ length out.old }
+        requires known { Known out.old from (row_size self.vertices.now) at (row_in self i) }
+        ensures value { result ≡ at + row_size self.entry.vertices.now }
+        ensures written { Written out.old out.new at (row_in self.entry i) result }
+    {
+        match from {
+            Some(from) => self.copy(from, out, at),
+            None => self.write(i, out, at),
+        }
     }
-    p
-}
 
-// All cells of so many rows of vertices, to the front of out.
-fn write_lattice(
-    data: &[u8],
-    values: &[f64],
-    vertices: Vertices,
-    ranges: &[f64; 68],
-    row: usize,
-    rows: usize,
-    out: &mut [f64],
-) -> usize
-    requires { VerticesThere vertices «data».now values.now × (2 ≤ row) × (rows * row ≤ vertices.total) × ((rows - 1) * (6 * (vertices.layout.n + 10) * (row - 1)) ≤ length out.old) }
-    ensures { Written out.old out.new 0 (joined (rows - 1) (λ r. cells_numbers (row_of_vertex vertices «data».now values.now (held_ranges ranges.now)) row (r * row))) result }
-{
-    let mut p: usize = 0;
-    let mut first: usize = 0;
-    let mut r: usize = 0;
-    while r + 1 < rows {
-        p = write_cells(data, values, vertices, ranges, row, first, out, p);
-        first += row;
-        r += 1;
+    // The rows i, i + 1, j, i + 1, j + 1, j.
+    fn write_cell(self, cell: Cell, out: &mut [f64], at: usize) -> usize
+        requires there { cell.i + cell.row + 1 < self.vertices.now.total }
+        requires room { at + 6 * row_size self.vertices.now ≤ length out.old }
+        requires left { Known out.old cell.left (row_size self.vertices.now) at (row_in self cell.i) }
+        requires above { Known out.old cell.above (row_size self.vertices.now) at (row_in self (cell.i + 1)) }
+        requires below { Known out.old cell.below (row_size self.vertices.now) at (row_in self (cell.i + cell.row)) }
+        ensures value { result ≡ at + 6 * row_size self.entry.vertices.now }
+        ensures written { Written out.old out.new at (cell_numbers (row_in self.entry) cell.row cell.i) result }
+    {
+        let i = cell.i;
+        let j = i + cell.row;
+        let p = self.write_row(i, cell.left, out, at);
+        let q = self.write_row(i + 1, cell.above, out, p);
+        let s = self.write_row(j, cell.below, out, q);
+        let t = self.copy(p, out, s);
+        let u = self.write(j + 1, out, t);
+        self.copy(q, out, u)
     }
-    p
+
+    // The cells between the row of vertices that begins with vertex `first` and the next.
+    fn write_cells(self, row: usize, first: usize, out: &mut [f64], at: usize) -> usize
+        requires two { 2 ≤ row }
+        requires there { first + 2 * row ≤ self.vertices.now.total }
+        requires room { at + 6 * row_size self.vertices.now * (row - 1) ≤ length out.old }
+        requires above { 0 < first → Above (row_in self) out.old (row_size self.vertices.now) row first at }
+        ensures value { result ≡ at + 6 * row_size self.entry.vertices.now * (row - 1) }
+        ensures written { Written out.old out.new at (cells_numbers (row_in self.entry) row first) result }
+    {
+        let size = 10 + self.vertices.input.layout.n;
+        let back = 6 * size * (row - 1) - 4 * size;
+        let mut p = at;
+        for c in 0..row - 1 {
+            let cell = Cell {
+                row,
+                i: first + c,
+                left: back_from(c > 0, p, 5 * size),
+                above: back_from(first > 0, p, back),
+                below: back_from(c > 0, p, 2 * size),
+            };
+            p = self.write_cell(cell, out, p);
+        }
+        p
+    }
+
+    // All cells of so many rows of vertices, to the front of out.
+    fn write_lattice(self, row: usize, rows: usize, out: &mut [f64]) -> usize
+        requires two { 2 ≤ row }
+        requires some { 1 ≤ rows }
+        requires there { rows * row ≤ self.vertices.now.total }
+        requires room { (rows - 1) * (6 * row_size self.vertices.now * (row - 1)) ≤ length out.old }
+        ensures { Written out.old out.new 0 (joined (rows - 1) (λ r. cells_numbers (row_in self.entry) row (r * row))) result }
+    {
+        let mut p: usize = 0;
+        for r in 0..rows - 1 {
+            p = self.write_cells(row, r * row, out, p);
+        }
+        p
+    }
 }
 
 // Counts, tests for room, and writes. Decode's ranges are worked out only where there is room.
-pub fn lattice_form(
-    data: &[u8],
-    values: &[f64],
-    decode: &[f64],
-    vertices: Vertices,
-    row: usize,
-    out: &mut [f64],
-) -> Answer
-    requires { VerticesThere vertices «data».now values.now }
-    ensures { Done (fitted_mesh (finished (lattice vertices.total row) (row_of_vertex vertices «data».now values.now (held_ranges (range_list decode.now vertices.layout.coord vertices.layout.comp)))) (length out.old)) out.old result out.new }
+pub fn lattice_form(vertices: &Vertices, decode: &[f64], row: usize, out: &mut [f64]) -> Answer
+    ensures { Done (fitted_mesh (finished (lattice vertices.now.total row) (row_of_vertex vertices.now (held_ranges (range_list decode.now vertices.now.input.layout.coord vertices.now.input.layout.comp)))) (length out.old)) out.old result out.new }
 {
-    let layout = vertices.layout;
     let rows = lattice_rows(vertices.total, row);
     if rows < 2 {
-        return Answer::Wrote(0);
+        return Ok(0);
     }
     let count = 2 * (rows - 1) * (row - 1);
-    let needed = count * (3 * (layout.n + 10));
+    let needed = count * (3 * (10 + vertices.input.layout.n));
     if out.len() < needed {
-        return Answer::Refused(Refusal::Room(needed));
+        return Err(Refusal::Room(needed));
     }
-    let mut ranges = [0.0f64; 68];
-    rows::fill_ranges(layout, decode, &mut ranges);
-    write_lattice(data, values, vertices, &ranges, row, rows, out);
-    Answer::Wrote(count)
+    let mut ranges = [rows::NO_RANGE; 34];
+    vertices.input.fill_ranges(decode, &mut ranges);
+    let rows_of = Rows {
+        vertices,
+        ranges: &ranges,
+    };
+    rows_of.write_lattice(row, rows, out);
+    Ok(count)
 }

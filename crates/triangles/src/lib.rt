@@ -2,23 +2,22 @@
 // list of numbers, and both readings.
 #![tactic(auto)]
 
-ghost use Rattle.std.specs.Prelude.{false, [], length};
+ghost use Rattle.std.specs.Prelude.{[], length};
 ghost use Rattle.std.proofs.Math.Option.{none};
 ghost use Rattle.answers.specs.Outcome.{Done};
 ghost use Rattle.records.specs.Format.{whole_number, two_low_bits};
-ghost use Rattle.rows.specs.Inner.Layouts.{masked};
+ghost use Rattle.rows.specs.Inner.Sources.{masked};
 ghost use Rattle.rules.specs.Triangles.{triangle_before, triangles};
 ghost use Rattle.rules.specs.Ported.{binary_reader, list_builder};
 ghost use Rattle.meshes.specs.Outcomes.{parse4, parse5, build4, build5};
 ghost use Rattle.triangles.specs.Inner.Vertices.{rule_of};
 
-use crate::free_form::free_form;
+use crate::free_form::{Rule, free_form};
 use crate::lattice_form::lattice_form;
-use crate::vertices::vertices_in;
-use answers::{Answer, Refusal};
-use records::layout::{FlagWidth, mesh_layout_is_readable};
-use rows::Layout;
+use crate::vertices::Vertices;
+use answers::Answer;
 
+mod accepting;
 mod free_form;
 mod lattice_form;
 mod vertices;
@@ -38,24 +37,9 @@ fn read_type4(
 ) -> Answer
     ensures { Done (parse4 (masked mask) (triangles triangle_before) «data».now coord comp flag decode.now n (length out.old)) out.old result out.new }
 {
-    if !mesh_layout_is_readable(coord, comp, FlagWidth::Bits(flag), decode.len()) {
-        return Answer::Refused(Refusal::Layout);
-    }
-    if n > answers::MOST_COMPONENTS {
-        return Answer::Refused(Refusal::Components);
-    }
-    if data.len() > answers::MOST_BYTES {
-        return Answer::Refused(Refusal::Length);
-    }
-    let layout = Layout {
-        listed: false,
-        flag,
-        coord,
-        comp,
-        n,
-    };
-    let vertices = vertices_in(layout, mask, 8 * data.len());
-    free_form(data, &decode[0..0], decode, vertices, false, out)
+    let input = accepting::bits(data, coord, comp, Some(flag), decode, n)?;
+    let vertices = Vertices::new(input, mask);
+    free_form(&vertices, decode, Rule::TriangleBefore, out)
 }
 
 fn read_type5(
@@ -69,24 +53,9 @@ fn read_type5(
 ) -> Answer
     ensures { Done (parse5 «data».now coord comp decode.now n row (length out.old)) out.old result out.new }
 {
-    if !mesh_layout_is_readable(coord, comp, FlagWidth::Absent, decode.len()) {
-        return Answer::Refused(Refusal::Layout);
-    }
-    if n > answers::MOST_COMPONENTS {
-        return Answer::Refused(Refusal::Components);
-    }
-    if data.len() > answers::MOST_BYTES {
-        return Answer::Refused(Refusal::Length);
-    }
-    let layout = Layout {
-        listed: false,
-        flag: 0,
-        coord,
-        comp,
-        n,
-    };
-    let vertices = vertices_in(layout, rows::WHOLE_NUMBER, 8 * data.len());
-    lattice_form(data, &decode[0..0], decode, vertices, row, out)
+    let input = accepting::bits(data, coord, comp, None, decode, n)?;
+    let vertices = Vertices::new(input, rows::WHOLE_NUMBER);
+    lattice_form(&vertices, decode, row, out)
 }
 
 // The Type 4 reader of 000: a flag is the whole number.
@@ -151,60 +120,35 @@ pub fn published_type5_mesh(
 
 // ---- from a list of numbers
 
-fn build_type4(values: &[f64], n: usize, last_three: bool, out: &mut [f64]) -> Answer
-    ensures { Done (build4 (triangles (rule_of last_three)) values.now n (length out.old)) out.old result out.new }
+fn build_type4(values: &[f64], n: usize, rule: Rule, out: &mut [f64]) -> Answer
+    ensures { Done (build4 (triangles (rule_of rule)) values.now n (length out.old)) out.old result out.new }
 {
-    if n > answers::MOST_COMPONENTS {
-        return Answer::Refused(Refusal::Components);
-    }
-    if values.len() > answers::MOST_NUMBERS {
-        return Answer::Refused(Refusal::Length);
-    }
-    let layout = Layout {
-        listed: true,
-        flag: 1,
-        coord: 1,
-        comp: 1,
-        n,
-    };
-    let vertices = vertices_in(layout, rows::WHOLE_NUMBER, values.len());
-    let none = [0u8; 1];
-    free_form(&none, values, &values[0..0], vertices, last_three, out)
+    let input = accepting::list(values, 1, n)?;
+    let vertices = Vertices::new(input, rows::WHOLE_NUMBER);
+    free_form(&vertices, &[], rule, out)
 }
 
+// The vertices of a Type 5 list have no flag.
 fn build_type5(values: &[f64], n: usize, row: usize, out: &mut [f64]) -> Answer
     ensures { Done (build5 values.now n row (length out.old)) out.old result out.new }
 {
-    if n > answers::MOST_COMPONENTS {
-        return Answer::Refused(Refusal::Components);
-    }
-    if values.len() > answers::MOST_NUMBERS {
-        return Answer::Refused(Refusal::Length);
-    }
-    let layout = Layout {
-        listed: true,
-        flag: 0, // a Type 5 list has none
-        coord: 1,
-        comp: 1,
-        n,
-    };
-    let vertices = vertices_in(layout, rows::WHOLE_NUMBER, values.len());
-    let none = [0u8; 1];
-    lattice_form(&none, values, &values[0..0], vertices, row, out)
+    let input = accepting::list(values, 0, n)?;
+    let vertices = Vertices::new(input, rows::WHOLE_NUMBER);
+    lattice_form(&vertices, &[], row, out)
 }
 
 // The Type 4 builder of 000: it goes on from the last three vertices that it kept.
 pub fn build_type4_from_array(values: &[f64], n: usize, out: &mut [f64]) -> Answer
     ensures { Done (build4 (list_builder [] 0) values.now n (length out.old)) out.old result out.new }
 {
-    build_type4(values, n, true, out)
+    build_type4(values, n, Rule::LastThree, out)
 }
 
 // The flag rules of ISO 32000-1, 8.7.4.5.5, read over the list: it goes on from the triangle before.
 pub fn published_type4_from_array(values: &[f64], n: usize, out: &mut [f64]) -> Answer
     ensures { Done (build4 (triangles triangle_before) values.now n (length out.old)) out.old result out.new }
 {
-    build_type4(values, n, false, out)
+    build_type4(values, n, Rule::TriangleBefore, out)
 }
 
 // The Type 5 builder of 000.

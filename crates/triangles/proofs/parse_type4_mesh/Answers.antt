@@ -2,7 +2,7 @@
 -- nothing.
 use Rattle.rules.specs.Triangles.{triangle_before}
 use Rattle.records.specs.Format.{whole_number}
-use Rattle.rows.specs.Inner.Layouts.{masked}
+use Rattle.rows.specs.Inner.Sources.{masked}
 use Rattle.rows.proofs.Masks.{whole_masked}
 use Rattle.meshes.proofs.FlagReadings.{type4_kept, word_outcome}
 use Rattle.meshes.proofs.TriangleReadings.{type4_ported}

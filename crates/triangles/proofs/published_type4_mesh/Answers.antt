@@ -1,7 +1,7 @@
 -- `triangles::published_type4_mesh` meets its contract: its mask leaves the two low bits. Assumes nothing.
 use Rattle.records.specs.declared.shape.Kind.TheVariants.{Four}
 use Rattle.records.specs.Format.{two_low_bits}
-use Rattle.rows.specs.Inner.Layouts.{masked}
+use Rattle.rows.specs.Inner.Sources.{masked}
 use Rattle.rows.proofs.Masks.{low_masked}
 use Rattle.rules.specs.Triangles.{triangle_before}
 use Rattle.meshes.proofs.FlagReadings.{type4_kept, word_outcome}

@@ -1,33 +1,17 @@
--- `triangles::read_type4` meets its contract: each refusal in its order, then the core over the bits, whose rows are those of Decode. Assumes nothing.
-use mathlib.Core.Path.{sym, ◌∙◌}
-use Rattle.records.specs.declared.layout.FlagWidth.TheVariants.{Bits}
-use Rattle.records.proofs.Layouts.{layout_widths}
-use Rattle.meshes.proofs.Endings.{unreadable, many_components, too_long}
-use Rattle.triangles.proofs.Ends.{true_false, there_bits, type4_ended}
+-- `triangles::read_type4` meets its contract: what is refused, else the core over the bits, whose rows are those of Decode. Assumes nothing.
+use Rattle.std.proofs.Common.{Some, sym, subst}
+use Rattle.triangles.specs.Inner.Accepting.{FromBits}
+use Rattle.triangles.proofs.Refusing.{flag_some}
+use Rattle.triangles.proofs.Ends.{type4_ended}
 use Rattle.triangles.proofs.read_type4.Goals as goal
-
-pub returns-then-not-mesh_layout_is_readable : goal.returns-then-not-mesh_layout_is_readable
-returns-then-not-mesh_layout_is_readable c = unreadable _ _ _ _ (sym c.mesh_layout_is_readable.ensures ∙ c.if-not-mesh_layout_is_readable.true)
-
-pub returns-then-n-gt-MOST_COMPONENTS : goal.returns-then-n-gt-MOST_COMPONENTS
-returns-then-n-gt-MOST_COMPONENTS c = many_components _ _ _ _ (sym c.mesh_layout_is_readable.ensures ∙ c.if-not-mesh_layout_is_readable.false) c.if-n-gt-MOST_COMPONENTS.true
-
-pub returns-then-data-gt-MOST_BYTES : goal.returns-then-data-gt-MOST_BYTES
-returns-then-data-gt-MOST_BYTES c = too_long _ _ _ _ (sym c.mesh_layout_is_readable.ensures ∙ c.if-not-mesh_layout_is_readable.false) c.if-n-gt-MOST_COMPONENTS.false c.if-data-gt-MOST_BYTES.true
-
-pub vertices_in-vertices-requires : goal.vertices_in-vertices-requires
-vertices_in-vertices-requires c =
-    let w = layout_widths (Bits c.args.flag) c.args.coord c.args.comp _ (sym c.mesh_layout_is_readable.ensures ∙ c.if-not-mesh_layout_is_readable.false) in
-    (w.of_coord.some_bits, w.of_coord.few_bits, w.of_comp.few_bits, w.of_first.few_bits, c.if-n-gt-MOST_COMPONENTS.false)
 
 pub free_form-requires : goal.free_form-requires
 free_form-requires c =
-    let w = layout_widths (Bits c.args.flag) c.args.coord c.args.comp _ (sym c.mesh_layout_is_readable.ensures ∙ c.if-not-mesh_layout_is_readable.false) in
-    let e = c.vertices_in-vertices.ensures in
-    let h = there_bits _ _ c.args.coord c.args.comp c.args.flag c.args.mask c.args.n w.of_coord.some_bits w.of_coord.few_bits w.of_comp.some_bits w.of_comp.few_bits c.if-n-gt-MOST_COMPONENTS.false c.if-data-gt-MOST_BYTES.false in
-    (rw e h, rw e (record { some_bits = w.of_first.some_bits; few_bits = w.of_first.few_bits; listed_whole = λ t. true_false t }))
+    let a = c.args in
+    rw c.new-vertices.ensures.input (flag_some _ a.coord a.comp a.flag a.decode.now a.n c.in_ok-input.ensures)
 
 pub returns : goal.returns
 returns c =
-    let e = c.vertices_in-vertices.ensures in
-    type4_ended _ _ c.args.coord c.args.comp _ c.args.n c.if-n-gt-MOST_COMPONENTS.false c.if-data-gt-MOST_BYTES.false c.args.flag c.args.mask (sym c.mesh_layout_is_readable.ensures ∙ c.if-not-mesh_layout_is_readable.false) (rw e at c.free_form.ensures)
+    let a = c.args in
+    let f = subst (FromBits a.data.now a.coord a.comp (Some a.flag) a.decode.now a.n) (sym c.new-vertices.ensures.input) c.in_ok-input.ensures in
+    type4_ended c.new-vertices.result c.new-vertices.ensures.total a.data.now a.coord a.comp a.decode.now a.n a.flag a.mask f c.new-vertices.ensures.mask c.free_form.ensures

@@ -1,9 +1,15 @@
 -- What the inner functions that write a lattice promise one another.
-use Rattle.std.specs.Prelude.{ℕ, ◌+◌, ◌-◌, ◌*◌, ◌≤◌, ◌<◌, ◌≡◌, List, Float}
+use Rattle.std.specs.Prelude.{ℕ, ◌+◌, ◌-◌, ◌*◌, ◌≤◌, ◌<◌, ◌≡◌, List, Option, Some, None, Float}
 use Rattle.std.specs.Float.{nan}
 use Rattle.lists.specs.Lists.{joined, part, flat}
 use Rattle.rules.specs.Triangles.{corners}
 use Rattle.rules.specs.Lattice.{cell}
+use Rattle.triangles.specs.Inner.Vertices.{RowStands}
+
+-- where a row stands already, if it does
+abbrev pub Known : List Float → Option ℕ → ℕ → ℕ → List Float → Type 0
+Known out (Some from) size at row = RowStands out from size at row
+Known out None size at row = Unit {0}
 
 module _ (vertex : ℕ → List Float) where
   -- the six rows of the cell whose first vertex is i

@@ -1,0 +1,1 @@
+-- `triangles::Rows::write_row` meets its contract: the row is copied from where it stands, or read. Assumes nothing.

@@ -1,0 +1,62 @@
+// The inputs that readers and builders take: past the tests of LAYOUT, COMPONENTS and LENGTH.
+ghost use Rattle.std.specs.Prelude.{MatchResult, ◌≤◌};
+ghost use Rattle.triangles.specs.Inner.Accepting.{FromBits, BitsRefused, FromList, ListRefused};
+
+use answers::Refusal;
+use records::layout::mesh_layout_is_readable;
+use rows::{Input, Layout, Source};
+
+// Bytes, where Decode's entries are given. Type 5 has no flag.
+pub fn bits<'a>(
+    data: &'a [u8],
+    coord: usize,
+    comp: usize,
+    flag: Option<usize>,
+    decode: &[f64],
+    n: usize,
+) -> Result<Input<'a>, Refusal>
+    ensures { MatchResult result (FromBits «data».now coord comp flag decode.now n) (BitsRefused «data».now coord comp flag decode.now n) }
+{
+    if !mesh_layout_is_readable(coord, comp, flag, decode.len()) {
+        return Err(Refusal::Layout);
+    }
+    if n > answers::MOST_COMPONENTS {
+        return Err(Refusal::Components);
+    }
+    if data.len() > answers::MOST_BYTES {
+        return Err(Refusal::Length);
+    }
+    let layout = Layout {
+        flag: flag.unwrap_or(0),
+        coord,
+        comp,
+        n,
+    };
+    Ok(Input {
+        source: Source::Bits(data),
+        layout,
+    })
+}
+
+// A list, whose flags take so many numbers: one, or none in Type 5.
+pub fn list(values: &[f64], flag: usize, n: usize) -> Result<Input, Refusal>
+    requires { flag ≤ 1 }
+    ensures { MatchResult result (FromList values.now flag n) (ListRefused values.now n) }
+{
+    if n > answers::MOST_COMPONENTS {
+        return Err(Refusal::Components);
+    }
+    if values.len() > answers::MOST_NUMBERS {
+        return Err(Refusal::Length);
+    }
+    let layout = Layout {
+        flag,
+        coord: 1,
+        comp: 1,
+        n,
+    };
+    Ok(Input {
+        source: Source::List(values),
+        layout,
+    })
+}
