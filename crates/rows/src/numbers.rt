@@ -26,7 +26,10 @@ fn number(bytes: &[u8], from: usize, width: usize) -> u32
     requires there { from + width ≤ 8 * length bytes.now }
     ensures { result ≡ field_at bytes.now from width }
 {
-    bits::read(bytes, BitPos(from), width).unwrap().0
+    let Some((value, _)) = bits::read(bytes, BitPos(from), width) else {
+        unreachable!();
+    };
+    value
 }
 
 fn decoded(raw: u32, range: Range) -> f64
