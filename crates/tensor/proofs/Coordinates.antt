@@ -15,7 +15,7 @@ use Rattle.bits.specs.Bits.{number, stream}
 use Rattle.bits.proofs.Digits.{number_below}
 use Rattle.bits.proofs.Streams.{stream_below}
 use Rattle.records.specs.declared.shape.Kind.TheVariants.{Six}
-use Rattle.records.specs.declared.shape.Shape.TheVariants.{Follows, Ends}
+use Rattle.records.specs.Following.{follows, ends}
 use Rattle.records.specs.Format.{sum, numbers, Format, points_after, colours_after, widths_of, format, next, readings, raw_reading, whole_number}
 use Rattle.records.proofs.Readings.{length-numbers, numbers_then, next_some, readings_none}
 use Rattle.rules.specs.Patches.{Patch, Piece, Places, sides, at}
@@ -67,7 +67,7 @@ module _ (first w comp n : ℕ) where
       → ws ≡ replicate (2 * points_after 8 f) w ++ replicate (colours_after f * n) comp
   widths_after_lem started f ws e = go (eqb f 0 || (started && leb f 3)) e
     where
-      go : (t : Bool) → widths_of w comp n (cond t (Follows (2 * points_after 8 f) (colours_after f)) Ends) ≡ some ws
+      go : (t : Bool) → widths_of w comp n (cond t (follows (2 * points_after 8 f) (colours_after f)) ends) ≡ some ws
           → ws ≡ replicate (2 * points_after 8 f) w ++ replicate (colours_after f * n) comp
       go true e = sym (some-injective _ ws e)
       go false e = absurd (none-ne-some ws e)

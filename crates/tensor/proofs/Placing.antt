@@ -1,5 +1,5 @@
 -- What stores at every second place come to. Assumes nothing.
-use Prim.Native.Nat.{ℕ, zero, suc, ◌+◌, ◌≤◌}
+use Prim.Native.Nat.{ℕ, zero, suc, ◌+◌, ◌≤◌, ◌<◌}
 use mathlib.Core.Path.{◌≡◌, refl, sym, ap, ◌∙◌, subst}
 use mathlib.Core.List.{List, [], ◌∷◌, ◌++◌, map}
 use native.Mathlib.Nat.{zero-add, add-zero, suc-add, add_assoc}
@@ -8,6 +8,7 @@ use lib.ListN.{length, get_or, take, drop, set, length-drop, take-append-drop}
 use lib.Seq.{length-take-le, drop-drop}
 use Rattle.lists.specs.Lists.{joined, part, flat}
 use Rattle.lists.specs.Writing.{put, Written}
+use Rattle.lists.proofs.Members.{get_d_same}
 use Rattle.rules.specs.Meshes.{groups}
 use Rattle.tensor.specs.Turning.{Turning, inner_names, inner_point}
 use Rattle.tensor.specs.Inner.Placing.{spaced, inner_along}
@@ -72,6 +73,10 @@ pub inner_placed : {A B : Type 0} (T : Turning A B) (points : List (List A)) (l 
     (flat (λ x. x) (map (inner_point T points) inner_names)) (at + 8)
 unfolding flat
 inner_placed T points l at h = interleaved _ _ _ _ _ _ _ _ l at h
+
+-- what an index into a list answers
+pub number_at : {A : Type 0} (l : List A) (i : ℕ) (d : A) {x : A} → i < length l → x ≡ get_or l i x → x ≡ get_or l i d
+number_at l i d {x} h e = e ∙ get_d_same l i x d h
 
 -- the inner four along an axis, from the numbers of the border
 module _ {A B : Type 0} (T : Turning A B) (b : List A) (axis : ℕ) where

@@ -15,8 +15,8 @@ use Rattle.answers.specs.declared.Refusal.TheVariants.{Components, Length, Recor
 use Rattle.answers.specs.Limits.{most_components, most_numbers}
 use Rattle.answers.specs.Outcome.{Outcome, number_of, refused, wrote, refuse_if, fitted, tells}
 use Rattle.records.specs.declared.shape.Kind.TheVariants.{Six}
-use Rattle.records.specs.declared.shape.Shape.{Shape}
-use Rattle.records.specs.declared.shape.Shape.TheVariants.{Follows, Ends}
+use Rattle.std.specs.Prelude.{Some, None}
+use Rattle.records.specs.Following.{Following, follows}
 use Rattle.records.specs.Format.{Format, sum, numbers, shape_of, widths_of, format, next, readings, raw_reading}
 use Rattle.records.proofs.Readings.{length-numbers, next_some, readings_none, readings_some}
 use Rattle.rules.specs.Patches.{Patch, sides}
@@ -30,7 +30,7 @@ module _ (n : ℕ) where
   records_none zero started = refl
   records_none (suc k) started = refl
 
-  records_more : (k : ℕ) (started : Bool) (x coords colours : ℕ) (ns rest : List ℕ) → shape_of Six started x ≡ Follows coords colours
+  records_more : (k : ℕ) (started : Bool) (x coords colours : ℕ) (ns rest : List ℕ) → shape_of Six started x ≡ follows coords colours
       → length ns ≡ coords + colours * n → whole_records (suc k) n started (x ∷ (ns ++ rest)) ≡ whole_records k n true rest
   unfolding whole_records
   records_more k started x coords colours ns rest e l =
@@ -47,11 +47,13 @@ module _ (n : ℕ) where
     record_more zero started x ws ns rest e l h ih = absurd (omega arith)
     record_more (suc fuel) started x ws ns rest e l h ih = go (shape_of Six started x) refl e
       where
-        go : (s : Shape) → shape_of Six started x ≡ s → widths_of coord comp n s ≡ some ws → whole_records (suc fuel) n started (x ∷ (ns ++ rest)) ≡ true
-        go (Follows coords colours) q e =
+        go : (s : Following) → shape_of Six started x ≡ s → widths_of coord comp n s ≡ some ws → whole_records (suc fuel) n started (x ∷ (ns ++ rest)) ≡ true
+        go (Some shape) q e =
+            let coords : ℕ = shape.coords in
+            let colours : ℕ = shape.colours in
             let size : length ws ≡ coords + colours * n = rw (← some-injective _ ws e) (simp (length-append, length-replicate)) in
             records_more fuel started x coords colours ns rest q (l ∙ size) ∙ ih fuel (omega (arith, length-append ns rest))
-        go Ends q e = absurd (none-ne-some ws e)
+        go None q e = absurd (none-ne-some ws e)
 
     -- any bound that is no less than the length will do
     readings_whole : (k fuel : ℕ) (started : Bool) (b : List ℕ) → length (readings F k started b) ≤ fuel

@@ -1,21 +1,19 @@
 -- What the writing of a raw patch comes to. Assumes nothing.
 use Prim.Native.Nat.{ℕ, zero, suc, ◌+◌, ◌*◌, ◌^◌, ◌≤◌, ◌<◌}
-use mathlib.Core.Path.{◌≡◌, refl, ap, ◌∙◌}
+use mathlib.Core.Path.{◌≡◌, refl, sym, ap, ap₂, ◌∙◌}
 use mathlib.Core.List.{List, [], ◌∷◌, ◌++◌, map, map-append, append-nil}
-use native.Mathlib.Nat.{mul-le-mul_left, one-mul}
+use native.Mathlib.Nat.{zero-add, one-mul, mul-le-mul_left}
 use native.Mathlib.Omega.{arith}
 use lib.IntN.{ℤ, pos}
-use lib.ListN.{length, get_or}
+use lib.ListN.{length, get_or, length-append, take-append-drop}
 use Rattle.lists.specs.Lists.{joined, part, flat}
-use Rattle.lists.specs.Writing.{Written}
-use Rattle.lists.proofs.Pieces.{part_then}
-use Rattle.lists.proofs.Writing.{written_then}
+use Rattle.lists.proofs.Pieces.{part_all}
 use Rattle.rules.specs.Meshes.{groups}
 use Rattle.tensor.specs.Turning.{raw, tensor_patch, numbers_of}
 use Rattle.tensor.specs.declared.raw.Coons.{Coons}
 use Rattle.tensor.specs.Inner.Standing.{patch_in}
 use Rattle.tensor.specs.Inner.Placing.{spaced, inner_along}
-use Rattle.tensor.proofs.Rows.{turned_written}
+use Rattle.tensor.proofs.Rows.{turned_row}
 use Rattle.tensor.proofs.Taking.{groups_of_copies}
 
 -- ---- numbers times a factor
@@ -25,36 +23,30 @@ times_small factor x h k =
     let a : factor * x ≤ factor * 4294967296 = mul-le-mul_left factor (omega arith) in
     omega arith
 
--- g of each element of a part
-pub mapped : {A B : Type 0} (g : A → B) (d : A) (l : List A) (from k : ℕ)
-    → joined k (λ (j : ℕ). g (get_or l (from + j) d) ∷ []) ≡ map g (part d l from k)
+-- g of each element
+pub mapped : {A B : Type 0} (g : A → B) (d : A) (l : List A) (k : ℕ) → joined k (λ (j : ℕ). g (get_or l j d) ∷ []) ≡ map g (part d l 0 k)
 unfolding joined part
-mapped g d l from zero = refl
-mapped g d l from (suc k) = rw (map-append, ← (mapped g d l from k))
+mapped g d l zero = refl
+mapped g d l (suc k) = rw (map-append, ← (mapped g d l k), zero-add)
 
--- ---- a patch
+pub mapped_all : {A B : Type 0} (g : A → B) (d : A) (l : List A) → joined (length l) (λ (j : ℕ). g (get_or l j d) ∷ []) ≡ map g l
+mapped_all g d l = mapped g d l (length l) ∙ ap (map g) (part_all d l)
 
--- the k numbers of l from index from, each times a factor
-abbrev times : ℕ → List ℕ → ℕ → ℕ → List ℤ
-times factor l from k = map (λ (x : ℕ). pos (factor * x)) (part 0 l from k)
+-- the border, the inner four along one axis and along the other, the colours
+pub raw_row : (n : ℕ) (c : Coons) (border : List ℕ) (l : List ℤ) → border ≡ c.side ++ c.others.now → length c.side ≡ 8 → length c.others.now ≡ 16 → length l ≡ 8
+    → map raw.border border
+    ++ (spaced (spaced l 0 (inner_along raw (groups 0 border 0 12 2) 0)) 1 (inner_along raw (groups 0 border 0 12 2) 1)
+    ++ map pos (c.c00.now ++ (c.c03.now ++ c.c33_c30.now)))
+    ≡ numbers_of (tensor_patch raw (patch_in n c))
+unfolding patch_in flat
+raw_row n c border l is eight sixteen there =
+    let side : c.side ≡ part 0 c.side 0 8 = sym (ap (part 0 c.side 0) (sym eight) ∙ part_all 0 c.side) in
+    let others : c.others.now ≡ part 0 c.others.now 0 16 = sym (ap (part 0 c.others.now 0) (sym sixteen) ∙ part_all 0 c.others.now) in
+    let points : groups 0 border 0 12 2 ≡ groups 0 c.side 0 4 2 ++ groups 0 c.others.now 0 8 2 =
+    ap (λ (b : List ℕ). groups 0 b 0 12 2) (is ∙ ap₂ (λ (x y : List ℕ). x ++ y) side others) ∙ groups_of_copies c.side 0 4 c.others.now 0 8 2 in
+    let long : length border ≡ 24 = ap length is ∙ length-append c.side c.others.now ∙ omega arith in
+    simp (take-append-drop, append-nil) at (turned_row raw (patch_in n c) border l long there points)
 
-module _ (n : ℕ) (xs : List ℕ) (c : Coons) where
-  points_are : (border : List ℕ) → border ≡ part 0 c.side 0 8 ++ part 0 xs c.own 16 → groups 0 border 0 12 2 ≡ (patch_in n xs c).points
-  unfolding patch_in
-  points_are border e = ap (λ (l : List ℕ). groups 0 l 0 12 2) e ∙ groups_of_copies c.side 0 4 xs c.own 8 2
-
-  colours_are : map raw.colour (flat (λ x. x) (patch_in n xs c).colours)
-      ≡ times 1 xs c.c00 n ++ (times 1 xs c.c03 n ++ times 1 xs c.c33 (2 * n))
-  unfolding patch_in flat
-  colours_are =
-      let two : 2 * n ≡ n + n = omega arith in
-      rw (two, part_then 0 xs c.c33 n n) (simp (one-mul, map-append, append-nil))
-
-  -- the border, the inner four along one axis and along the other, the colours
-  pub raw_written : (border : List ℕ) {l a b d e f o : List ℤ} {at p q r s : ℕ} → border ≡ part 0 c.side 0 8 ++ part 0 xs c.own 16
-      → Written l a at (times 9 border 0 24) p
-      → b ≡ spaced a p (inner_along raw (groups 0 border 0 12 2) 0) → d ≡ spaced b (p + 1) (inner_along raw (groups 0 border 0 12 2) 1)
-      → Written d e (p + 8) (times 1 xs c.c00 n) q → Written e f q (times 1 xs c.c03 n) r → Written f o r (times 1 xs c.c33 (2 * n)) s
-      → p + 8 ≤ length l → Written l o at (numbers_of (tensor_patch raw (patch_in n xs c))) s
-  raw_written border is bordered x y c00 c03 c33 =
-      turned_written raw (patch_in n xs c) border (points_are border is) bordered x y (rw colours_are (written_then c00 (written_then c03 c33)))
+-- the colours, one after the other
+pub colours_row : (a b c : List ℕ) → map (λ x. pos (1 * x)) a ++ (map (λ x. pos (1 * x)) b ++ map (λ x. pos (1 * x)) c) ≡ map pos (a ++ (b ++ c))
+colours_row a b c = simp (one-mul, map-append)

@@ -3,17 +3,18 @@ use Prim.Native.Nat.{ℕ, zero, suc, ◌+◌, ◌*◌, ◌≤◌}
 use mathlib.Core.Path.{◌≡◌, refl, sym, ap, ap₂, ◌∙◌}
 use mathlib.Core.List.{List, [], ◌∷◌, ◌++◌, append-nil, append_assoc}
 use mathlib.Core.Option.{some}
+use Rattle.std.specs.Prelude.{Option, Some, IfSome}
 use native.Mathlib.Nat.{zero-add, add-zero, add-suc, one-mul, zero-mul, suc-mul, mul-le-mul_right}
 use native.Mathlib.Omega.{arith}
-use lib.ListN.{length, get_or, get_elem?, drop, length-append}
-use lib.Seq.{get_or-drop}
+use lib.ListN.{length, get_or, get_elem?, take, drop, length-drop}
+use lib.Seq.{drop-drop, take_at, drop_at, length-take-le}
 use Rattle.lists.specs.Lists.{joined, part, flat}
-use Rattle.lists.proofs.Pieces.{joined_same, length_part}
+use Rattle.lists.proofs.Pieces.{joined_same, length_part, part_take, part_then}
 use Rattle.rules.specs.Patches.{patch, Places, at, sides}
 use Rattle.rules.specs.Meshes.{groups, size_after}
 use Rattle.meshes.proofs.Parts.{part_first, part_second}
 use Rattle.tensor.specs.declared.raw.Coons.{Coons}
-use Rattle.tensor.specs.Inner.Standing.{points_in, colours_in, patch_in, Within, Takes}
+use Rattle.tensor.specs.Inner.Standing.{patch_in, Sized, Takes}
 use Rattle.tensor.proofs.Rows.{groups_of_part}
 
 -- ---- groups of numbers
@@ -51,121 +52,146 @@ groups_of_copies a p j b q k m =
     (groups_first x y m j long ∙ groups_of_part 0 a p j m)
     (ap (λ (z : ℕ). groups 0 (x ++ y) z k m) (zero-add (j * m)) ∙ groups_second x y m j long k ∙ groups_of_part 0 b q k m)
 
--- points in the middle of a border, and its last three
-middle_points : (xs : List ℕ) (p : ℕ) → groups 0 xs (p + 4) 4 2 ≡ part 0 xs (p + 4) 2 ∷ part 0 xs (p + 6) 2 ∷ part 0 xs (p + 8) 2 ∷ part 0 xs (p + 10) 2 ∷ []
-unfolding groups joined
-middle_points xs p =
-    let a : p + 4 + 2 ≡ p + 6 = omega arith in
-    let b : p + 4 + 4 ≡ p + 8 = omega arith in
-    let c : p + 4 + 6 ≡ p + 10 = omega arith in
-    rw (add-zero (p + 4), a, b, c)
-
-last_points : (xs : List ℕ) (p : ℕ) → groups 0 xs (p + 10) 3 2 ≡ part 0 xs (p + 10) 2 ∷ part 0 xs (p + 12) 2 ∷ part 0 xs (p + 14) 2 ∷ []
-unfolding groups joined
-last_points xs p =
-    let a : p + 10 + 2 ≡ p + 12 = omega arith in
-    let b : p + 10 + 4 ≡ p + 14 = omega arith in
-    rw (add-zero (p + 10), a, b)
-
 -- ---- what follows a flag
 
-groups_drop : (j : ℕ) (xs : List ℕ) (from k m : ℕ) → groups 0 (drop j xs) from k m ≡ groups 0 xs (j + from) k m
-unfolding groups part
-groups_drop j xs from k m =
-    joined_same k _ _
-    (λ i l. ap (λ (x : List ℕ). x ∷ [])
-    (joined_same m _ _
-    (λ h l. ap (λ (x : ℕ). x ∷ []) (get_or-drop j xs (from + i * m + h) 0 ∙ ap (λ (p : ℕ). get_or xs p 0) (regrouped (i * m) h)))))
-  where
-    regrouped : (a h : ℕ) → j + (from + a + h) ≡ j + from + a + h
-    regrouped a h = omega arith
-
-own_points : (j : ℕ) (xs : List ℕ) (k : ℕ) → groups 0 (drop j xs) 0 k 2 ≡ groups 0 xs j k 2
-own_points j xs k = groups_drop j xs 0 k 2 ∙ ap (λ (p : ℕ). groups 0 xs p k 2) (add-zero j)
+four_colours : (n : ℕ) (xs : List ℕ) (p : ℕ)
+    → groups 0 xs p 4 n ≡ part 0 xs p n ∷ part 0 xs (p + n) n ∷ part 0 xs (p + n + n) n ∷ part 0 xs (p + n + n + n) n ∷ []
+unfolding groups joined
+four_colours n xs p =
+    let two : p + 2 * n ≡ p + n + n = omega arith in
+    let three : p + 3 * n ≡ p + n + n + n = omega arith in
+    rw (zero-mul n, add-zero p, one-mul n, two, three)
 
 two_colours : (n : ℕ) (xs : List ℕ) (p : ℕ) → groups 0 xs p 2 n ≡ part 0 xs p n ∷ part 0 xs (p + n) n ∷ []
 unfolding groups joined
 two_colours n xs p = rw (zero-mul n, add-zero p, one-mul n)
 
-four_colours : (n : ℕ) (xs : List ℕ) (p : ℕ)
-    → groups 0 xs p 4 n ≡ part 0 xs p n ∷ part 0 xs (p + n) n ∷ part 0 xs (p + 2 * n) n ∷ part 0 xs (p + 2 * n + n) n ∷ []
-unfolding groups joined
-four_colours n xs p =
-    let three : p + 3 * n ≡ p + 2 * n + n = omega arith in
-    rw (zero-mul n, add-zero p, one-mul n, three)
+-- what is split off a list whose numbers from p on are r
+record Off (n : ℕ) (xs : List ℕ) (p : ℕ) (r a s : List ℕ) : Type 0 where
+  part_is : part 0 xs p n ≡ a
+  rest_is : drop (p + n) xs ≡ s
+
+off : (n : ℕ) (xs : List ℕ) (p : ℕ) {r a s : List ℕ} → p + n ≤ length xs → drop p xs ≡ r → a ≡ take n r → s ≡ drop n r → Off n xs p r a s
+off n xs p h e f g =
+    record {
+      part_is = part_take 0 xs p n h ∙ ap (take n) e ∙ sym f;
+      rest_is = sym (drop-drop n p xs) ∙ ap (drop n) e ∙ sym g;
+    }
 
 -- ---- the patch
+-- two colours side by side
+record Halves (n : ℕ) (xs : List ℕ) (p : ℕ) (a : List ℕ) : Type 0 where
+  first : part 0 xs p n ≡ take n a
+  second : part 0 xs (p + n) n ≡ drop n a
+  long : length a ≡ 2 * n
 
-two_parts : (a : List ℕ) (p j : ℕ) (b : List ℕ) (q k : ℕ) → length (part 0 a p j ++ part 0 b q k) ≡ j + k
-two_parts a p j b q k = rw (length-append, length_part 0 a p j, length_part 0 b q k) refl
+halves : (n : ℕ) (xs : List ℕ) (p : ℕ) {a : List ℕ} → part 0 xs p (2 * n) ≡ a → Halves n xs p a
+halves n xs p {a} e =
+    let two : 2 * n ≡ n + n = omega arith in
+    let both : a ≡ part 0 xs p n ++ part 0 xs (p + n) n = sym e ∙ ap (part 0 xs p) two ∙ part_then 0 xs p n n in
+    let m = length_part 0 xs p n in
+    record {
+      first = rw both (sym (take_at (part 0 xs p n) (part 0 xs (p + n) n) n m));
+      second = rw both (sym (drop_at (part 0 xs p n) (part 0 xs (p + n) n) n m));
+      long = ap length (sym e) ∙ length_part 0 xs p (2 * n);
+    }
 
-pub size_first : (n f : ℕ) → f ≡ 0 → 1 + size_after 8 n f ≡ 25 + 4 * n
-size_first n f e = rw e (omega arith)
+-- the record's patch, how long its parts are, and what comes after it
+pub record Taken (n : ℕ) (before : Option Coons) (f : ℕ) (own : List ℕ) (c : Coons) (rest : List ℕ) : Type 0 where
+  pub taken : Takes n before f own c
+  pub sized : Sized n c
+  pub rest_is : rest ≡ drop (size_after 8 n f) own
 
-pub size_joined : (n f : ℕ) → 1 ≤ f → 1 + size_after 8 n f ≡ 17 + 2 * n
-size_joined n zero h = absurd (omega arith)
-size_joined n (suc f) h = omega arith
-
-module _ (n : ℕ) (xs : List ℕ) (before : Coons) (i : ℕ) where
-  abbrev flag : ℕ
-  flag = get_or xs i 0
-
-  pub takes_first : flag ≡ 0 → i + (1 + size_after 8 n flag) ≤ length xs → (side : List ℕ) → side ≡ part 0 xs (i + 1) 8
-      → Takes n xs before i (record { side = side; own = i + 1 + 8; c00 = i + 1 + 24; c03 = i + 1 + 24 + n; c33 = i + 1 + 24 + 2 * n })
+module _ (n : ℕ) (own : List ℕ) where
+  pub takes_first : {before : Option Coons} {flag : ℕ} (c : Coons) {q r0 r1 r2 rest : List ℕ} → flag ≡ 0 → size_after 8 n flag ≤ length own
+      → c.side ≡ take 8 own → q ≡ drop 8 own → c.others.now ≡ take 16 q → r0 ≡ drop 16 q
+      → c.c00.now ≡ take n r0 → r1 ≡ drop n r0 → c.c03.now ≡ take n r1 → r2 ≡ drop n r1 → c.c33_c30.now ≡ take (2 * n) r2 → rest ≡ drop (2 * n) r2
+      → Taken n before flag own c rest
   unfolding patch_in
-  takes_first e h side s =
-      let k = size_first n flag e in (
-        rw (e, s) (ap₂ (λ (ps cs : List (List ℕ)). some (patch ps cs))
-            (own_points (i + 1) xs 12 ∙ groups_then xs (i + 1) 4 8 2
-            ∙ ap (λ (l : List (List ℕ)). l ++ groups 0 xs (i + 1 + 8) 8 2) (sym (groups_of_part 0 xs (i + 1) 4 2)))
-            (groups_drop (i + 1) xs 24 4 n ∙ four_colours n xs (i + 1 + 24))),
-        (omega (arith, k), omega (arith, k), omega (arith, k), omega (arith, k), rw s (length_part 0 xs (i + 1) 8)),
-        omega (arith, k),
-      )
+  takes_first {before} {flag} c {q} {r0} {r1} {r2} {rest} z there side eq others e0 c00 e1 c03 e2 last e3 =
+      let h : size_after 8 n 0 ≤ length own = rw z at there in
+      let g = off 8 own 0 (omega arith) refl side eq in
+      let o = off 16 own 8 (omega arith) g.rest_is others e0 in
+      let a = off n own 24 (omega arith) o.rest_is c00 e1 in
+      let d = off n own (24 + n) (omega arith) a.rest_is c03 e2 in
+      let e = off (2 * n) own (24 + n + n) (omega arith) d.rest_is last e3 in
+      let f = halves n own (24 + n + n) e.part_is in
+      let all : 24 + n + n + 2 * n ≡ size_after 8 n 0 = omega arith in
+      let points : groups 0 own 0 12 2 ≡ groups 0 c.side 0 4 2 ++ groups 0 c.others.now 0 8 2 =
+      groups_then own 0 4 8 2
+      ∙ ap₂ (λ (x y : List (List ℕ)). x ++ y)
+      (sym (groups_of_part 0 own 0 4 2) ∙ ap (λ (l : List ℕ). groups 0 l 0 4 2) g.part_is)
+      (sym (groups_of_part 0 own 8 8 2) ∙ ap (λ (l : List ℕ). groups 0 l 0 8 2) o.part_is) in
+      rw z (record {
+        taken = ap₂ (λ (ps cs : List (List ℕ)). some (patch ps cs)) points (four_colours n own 24 ∙ rw (a.part_is, d.part_is, f.first, f.second) refl);
+        sized =
+            record {
+              others = ap length (sym o.part_is) ∙ length_part 0 own 8 16;
+              c00 = ap length (sym a.part_is) ∙ length_part 0 own 24 n;
+              c03 = ap length (sym d.part_is) ∙ length_part 0 own (24 + n) n;
+              c33_c30 = f.long;
+            };
+        rest_is = sym e.rest_is ∙ ap (λ (k : ℕ). drop k own) all;
+      })
 
   -- flags 1 to 3: side s of the patch before, then what the record brings
-  pub takes_joined : (f : ℕ) (s : Places) → flag ≡ suc f → get_elem? sides f ≡ some s → i + (1 + size_after 8 n flag) ≤ length xs
-      → Within n xs before → (side : List ℕ) (c00 c03 : ℕ) → length side ≡ 8
-      → at (points_in xs before.side before.own) s.points ≡ groups 0 side 0 4 2
-      → at (colours_in n xs before) s.colours ≡ part 0 xs c00 n ∷ part 0 xs c03 n ∷ []
-      → c00 + n ≤ length xs → c03 + n ≤ length xs
-      → Takes n xs before i (record { side = side; own = i + 1; c00 = c00; c03 = c03; c33 = i + 1 + 16 })
-  unfolding patch_in
-  takes_joined f s e t h w side c00 c03 long ps cs a b =
-      let k = size_joined n flag (rw e (omega arith)) in (
-        rw (e, t, ps, cs) (ap₂ (λ (ps cs : List (List ℕ)). some (patch (groups 0 side 0 4 2 ++ ps) (part 0 xs c00 n ∷ part 0 xs c03 n ∷ cs)))
-            (own_points (i + 1) xs 8)
-            (groups_drop (i + 1) xs 16 2 n ∙ two_colours n xs (i + 1 + 16))),
-        (omega (arith, k), a, b, omega (arith, k), long),
-        omega (arith, k),
-      )
+  module _ {before : Option Coons} {flag : ℕ} {b : Coons} (came : before ≡ Some b) (eight : length b.side ≡ 8) (sized : IfSome before (Sized n))
+      (c : Coons) {r0 rest : List ℕ} (there : size_after 8 n flag ≤ length own)
+      (others : c.others.now ≡ take 16 own) (e0 : r0 ≡ drop 16 own) (last : c.c33_c30.now ≡ take (2 * n) r0) (e1 : rest ≡ drop (2 * n) r0) where
+    takes_joined : (f : ℕ) (s : Places) → flag ≡ suc f → get_elem? sides f ≡ some s
+        → at (groups 0 b.side 0 4 2 ++ groups 0 b.others.now 0 8 2) s.points ≡ groups 0 c.side 0 4 2
+        → at (b.c00.now ∷ b.c03.now ∷ take n b.c33_c30.now ∷ drop n b.c33_c30.now ∷ []) s.colours ≡ c.c00.now ∷ c.c03.now ∷ []
+        → length c.c00.now ≡ n → length c.c03.now ≡ n
+        → Taken n before flag own c rest
+    unfolding patch_in
+    takes_joined f s is-flag t ps cs u v =
+        let h : size_after 8 n (suc f) ≤ length own = rw is-flag at there in
+        let o = off 16 own 0 (omega arith) refl others e0 in
+        let a = off (2 * n) own 16 (omega arith) o.rest_is last e1 in
+        let d = halves n own 16 a.part_is in
+        let all : 16 + 2 * n ≡ size_after 8 n (suc f) = omega arith in
+        let points : groups 0 own 0 8 2 ≡ groups 0 c.others.now 0 8 2 =
+        sym (groups_of_part 0 own 0 8 2) ∙ ap (λ (l : List ℕ). groups 0 l 0 8 2) o.part_is in
+        rw (came, is-flag) (record {
+          taken = rw (t, ps, cs, points, two_colours n own 16, d.first, d.second) refl;
+          sized =
+              record {
+                others = ap length (sym o.part_is) ∙ length_part 0 own 0 16;
+                c00 = u;
+                c03 = v;
+                c33_c30 = d.long;
+              };
+          rest_is = sym a.rest_is ∙ ap (λ (k : ℕ). drop k own) all;
+        })
 
-  -- the three sides
-  pub takes_one : flag ≡ 1 → i + (1 + size_after 8 n flag) ≤ length xs → Within n xs before → (side : List ℕ)
-      → side ≡ part 0 before.side 6 2 ++ part 0 xs before.own 6
-      → Takes n xs before i (record { side = side; own = i + 1; c00 = before.c03; c03 = before.c33; c33 = i + 1 + 16 })
-  unfolding at flat groups joined
-  takes_one e h w side s =
-      takes_joined 0 (patch (3 ∷ 4 ∷ 5 ∷ 6 ∷ []) (1 ∷ 2 ∷ [])) e refl h w side before.c03 before.c33
-      (ap length s ∙ two_parts before.side 6 2 xs before.own 6)
-      (sym (ap (λ (l : List ℕ). groups 0 l 0 4 2) s ∙ groups_of_copies before.side 6 1 xs before.own 3 2))
-      refl w.2 (omega (arith, w.3))
+    -- the three sides
+    pub takes_one : flag ≡ 1 → c.side ≡ take 2 (drop 6 b.side) ++ take 6 b.others.now → c.c00.now ≡ b.c03.now → c.c03.now ≡ take n b.c33_c30.now
+        → Taken n before flag own c rest
+    unfolding at flat groups joined
+    takes_one is-flag side c00 c03 =
+        let w : Sized n b = rw came at sized in
+        let one : part 0 b.side 6 2 ≡ take 2 (drop 6 b.side) = part_take 0 b.side 6 2 (omega arith) in
+        let three : part 0 b.others.now 0 6 ≡ take 6 b.others.now = part_take 0 b.others.now 0 6 (omega (arith, w.others)) in
+        takes_joined 0 (patch (3 ∷ 4 ∷ 5 ∷ 6 ∷ []) (1 ∷ 2 ∷ [])) is-flag refl
+        (sym (ap (λ (l : List ℕ). groups 0 l 0 4 2) (side ∙ sym (ap₂ (λ (x y : List ℕ). x ++ y) one three)) ∙ groups_of_copies b.side 6 1 b.others.now 0 3 2))
+        (rw (c00, c03) refl) (ap length c00 ∙ w.c03) (ap length c03 ∙ length-take-le n b.c33_c30.now (omega (arith, w.c33_c30)))
 
-  pub takes_two : flag ≡ 2 → i + (1 + size_after 8 n flag) ≤ length xs → Within n xs before → (side : List ℕ) → side ≡ part 0 xs (before.own + 4) 8
-      → Takes n xs before i (record { side = side; own = i + 1; c00 = before.c33; c03 = before.c33 + n; c33 = i + 1 + 16 })
-  unfolding at flat groups joined
-  takes_two e h w side s =
-      takes_joined 1 (patch (6 ∷ 7 ∷ 8 ∷ 9 ∷ []) (2 ∷ 3 ∷ [])) e refl h w side before.c33 (before.c33 + n) (rw s (length_part 0 xs (before.own + 4) 8))
-      (sym (ap (λ (l : List ℕ). groups 0 l 0 4 2) s ∙ groups_of_part 0 xs (before.own + 4) 4 2 ∙ middle_points xs before.own))
-      refl (omega (arith, w.3)) (omega (arith, w.3))
+    pub takes_two : flag ≡ 2 → c.side ≡ take 8 (drop 4 b.others.now) → c.c00.now ≡ take n b.c33_c30.now → c.c03.now ≡ drop n b.c33_c30.now → Taken n before flag own c rest
+    unfolding at flat groups joined
+    takes_two is-flag side c00 c03 =
+        let w : Sized n b = rw came at sized in
+        let is : part 0 b.others.now 4 8 ≡ take 8 (drop 4 b.others.now) = part_take 0 b.others.now 4 8 (omega (arith, w.others)) in
+        takes_joined 1 (patch (6 ∷ 7 ∷ 8 ∷ 9 ∷ []) (2 ∷ 3 ∷ [])) is-flag refl
+        (sym (ap (λ (l : List ℕ). groups 0 l 0 4 2) (side ∙ sym is) ∙ groups_of_part 0 b.others.now 4 4 2))
+        (rw (c00, c03) refl) (ap length c00 ∙ length-take-le n b.c33_c30.now (omega (arith, w.c33_c30))) (ap length c03 ∙ rw length-drop (omega (arith, w.c33_c30)))
 
-  pub takes_three : flag ≡ 3 → i + (1 + size_after 8 n flag) ≤ length xs → Within n xs before → (side : List ℕ)
-      → side ≡ part 0 xs (before.own + 10) 6 ++ part 0 before.side 0 2
-      → Takes n xs before i (record { side = side; own = i + 1; c00 = before.c33 + n; c03 = before.c00; c33 = i + 1 + 16 })
-  unfolding at flat groups joined
-  takes_three e h w side s =
-      takes_joined 2 (patch (9 ∷ 10 ∷ 11 ∷ 0 ∷ []) (3 ∷ 0 ∷ [])) e refl h w side (before.c33 + n) before.c00
-      (ap length s ∙ two_parts xs (before.own + 10) 6 before.side 0 2)
-      (sym (ap (λ (l : List ℕ). groups 0 l 0 4 2) s ∙ groups_of_copies xs (before.own + 10) 3 before.side 0 1 2
-      ∙ ap (λ (l : List (List ℕ)). l ++ groups 0 before.side 0 1 2) (last_points xs before.own)))
-      refl (omega (arith, w.3)) w.1
+    pub takes_three : flag ≡ 3 → c.side ≡ take 6 (drop 10 b.others.now) ++ take 2 b.side → c.c00.now ≡ drop n b.c33_c30.now → c.c03.now ≡ b.c00.now
+        → Taken n before flag own c rest
+    unfolding at flat groups joined
+    takes_three is-flag side c00 c03 =
+        let w : Sized n b = rw came at sized in
+        let three : part 0 b.others.now 10 6 ≡ take 6 (drop 10 b.others.now) = part_take 0 b.others.now 10 6 (omega (arith, w.others)) in
+        let one : part 0 b.side 0 2 ≡ take 2 b.side = part_take 0 b.side 0 2 (omega arith) in
+        takes_joined 2 (patch (9 ∷ 10 ∷ 11 ∷ 0 ∷ []) (3 ∷ 0 ∷ [])) is-flag refl
+        (sym (ap (λ (l : List ℕ). groups 0 l 0 4 2) (side ∙ sym (ap₂ (λ (x y : List ℕ). x ++ y) three one)) ∙ groups_of_copies b.others.now 10 3 b.side 0 1 2))
+        (rw (c00, c03) refl) (ap length c00 ∙ rw length-drop (omega (arith, w.c33_c30))) (ap length c03 ∙ w.c00)

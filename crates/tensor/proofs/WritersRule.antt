@@ -12,8 +12,8 @@ use Rattle.lists.specs.Lists.{All, AllBelow}
 use Rattle.lists.proofs.Members.{all_append, all_drop, all_replicate}
 use Rattle.bits.specs.Bits.{bits_of}
 use Rattle.records.specs.declared.shape.Kind.TheVariants.{Six}
-use Rattle.records.specs.declared.shape.Shape.{Shape}
-use Rattle.records.specs.declared.shape.Shape.TheVariants.{Follows, Ends}
+use Rattle.std.specs.Prelude.{Some, None}
+use Rattle.records.specs.Following.{Following}
 use Rattle.records.specs.Format.{Format, shape_of, format}
 use Rattle.packing.specs.Packed.{prefixed, field, packed}
 use Rattle.rules.proofs.RawReading.{there}
@@ -54,10 +54,12 @@ module _ (n : ℕ) where
   rule (suc k) started [] h a = refl
   rule (suc k) started (x ∷ xs) h a = go (shape_of Six started x) refl (rule k true)
     where
-      go : (s : Shape) → shape_of Six started x ≡ s
+      go : (s : Following) → shape_of Six started x ≡ s
           → ((ys : List ℕ) → length ys ≤ k → All Held ys → there (packed F true [] ys) ≡ whole_records k n true ys)
           → there (packed F started [] (x ∷ xs)) ≡ whole_records (suc k) n started (x ∷ xs)
-      go (Follows coords colours) e ih =
+      go (Some shape) e ih =
+          let coords : ℕ = shape.coords in
+          let colours : ℕ = shape.colours in
           let size : ℕ = coords + colours * n in
           let due : List ℕ = replicate coords 32 ++ replicate (colours * n) 32 in
           let long : length due ≡ size = simp (length-append, length-replicate) in
@@ -67,7 +69,7 @@ module _ (n : ℕ) where
           (there_field 32 x (packed F true due xs) refl a.0
           ∙ there_due true due xs widest a.1
           ∙ rw (long, ih (drop size xs) short (all_drop Held size xs a.1)))
-      go Ends e ih = rw (e, packed, whole_records)
+      go None e ih = rw (e, packed, whole_records)
 
   -- the writer accepts exactly the whole records
   pub writers_rule : (xs : List ℕ) → AllBelow (2 ^ 32) xs → there (packed (format Six 32 32 32 n) false [] xs) ≡ whole_records (length xs) n false xs

@@ -1,12 +1,11 @@
 -- What the two functions answer and leave, for every input: document 02, Wish 2.
-use Rattle.std.specs.Prelude.{ℕ, zero, suc, ◌+◌, ◌*◌, ◌/◌, ◌%◌, Bool, true, false, not, ◌&&◌, List, [], ◌∷◌, leb, ltb, eqb, ℤ, Float, length, drop}
+use Rattle.std.specs.Prelude.{ℕ, zero, suc, ◌+◌, ◌*◌, ◌/◌, ◌%◌, Bool, true, false, not, ◌&&◌, List, [], ◌∷◌, leb, ltb, eqb, ℤ, Float, length, drop, Some, None}
 use Rattle.std.specs.Float.{nan}
 use Rattle.lists.specs.Lists.{joined, flat}
 use Rattle.answers.specs.declared.Refusal.TheVariants.{Components, Length, Record}
 use Rattle.answers.specs.Limits.{most_components, most_numbers}
 use Rattle.answers.specs.Outcome.{Outcome, refuse_if, fitted}
 use Rattle.records.specs.declared.shape.Kind.TheVariants.{Six}
-use Rattle.records.specs.declared.shape.Shape.TheVariants.{Follows, Ends}
 use Rattle.records.specs.Format.{shape_of}
 use Rattle.rules.specs.Patches.{Patch, patch, sides}
 use Rattle.rules.specs.Meshes.{groups, patches}
@@ -29,8 +28,8 @@ whole_records zero n started (x ∷ xs) = false
 whole_records (suc k) n started [] = true
 whole_records (suc k) n started (x ∷ xs) =
     elim (shape_of Six started x) [
-      | Follows coords colours ↦ leb (coords + colours * n) (length xs) && whole_records k n true (drop (coords + colours * n) xs)
-      | Ends ↦ false
+      | Some shape ↦ leb (shape.coords + shape.colours * n) (length xs) && whole_records k n true (drop (shape.coords + shape.colours * n) xs)
+      | None ↦ false
     ]
 
 -- the patches of a raw Type 6 list, its sides filled in

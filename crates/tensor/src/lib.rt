@@ -6,10 +6,10 @@ ghost use Rattle.std.specs.Prelude.{length};
 ghost use Rattle.answers.specs.Outcome.{Done};
 ghost use Rattle.tensor.specs.Outcomes.{coons_to_tensor_raw, coons_to_tensor};
 
-use crate::raw::Counted;
 use answers::{Answer, Refusal};
 
 mod float;
+mod inner_points;
 mod raw;
 
 // Turns a list of raw Type 6 numbers, flags among them. Answers how many patches there are.
@@ -17,21 +17,18 @@ pub fn coons_to_tensor_raw(numbers: &[u32], n: usize, out: &mut [i64]) -> Answer
     ensures { Done (coons_to_tensor_raw n numbers.now (length out.old)) out.old result out.new }
 {
     if n > answers::MOST_COMPONENTS {
-        return Answer::Refused(Refusal::Components);
+        return Err(Refusal::Components);
     }
     if numbers.len() > answers::MOST_NUMBERS {
-        return Answer::Refused(Refusal::Length);
+        return Err(Refusal::Length);
     }
-    let counted = raw::count_patches(numbers, n);
-    let Counted::Patches(count) = counted else {
-        return Answer::Refused(Refusal::Record);
-    };
+    let count = raw::count_patches(numbers, n).ok_or(Refusal::Record)?;
     let needed = count * (32 + 4 * n);
     if out.len() < needed {
-        return Answer::Refused(Refusal::Room(needed));
+        return Err(Refusal::Room(needed));
     }
     raw::write_patches(numbers, n, out);
-    Answer::Wrote(count)
+    Ok(count)
 }
 
 // Turns Type 6 patches as the readers write them. Answers how many there are.
@@ -39,20 +36,20 @@ pub fn coons_to_tensor(values: &[f64], n: usize, out: &mut [f64]) -> Answer
     ensures { Done (coons_to_tensor n values.now (length out.old)) out.old result out.new }
 {
     if n > answers::MOST_COMPONENTS {
-        return Answer::Refused(Refusal::Components);
+        return Err(Refusal::Components);
     }
     if values.len() > answers::MOST_NUMBERS {
-        return Answer::Refused(Refusal::Length);
+        return Err(Refusal::Length);
     }
     let size = 24 + 4 * (8 + n);
     if values.len() % size > 0 {
-        return Answer::Refused(Refusal::Record);
+        return Err(Refusal::Record);
     }
     let count = values.len() / size;
     let needed = count * (size + 8);
     if out.len() < needed {
-        return Answer::Refused(Refusal::Room(needed));
+        return Err(Refusal::Room(needed));
     }
-    float::write_patches(values, n, count, out);
-    Answer::Wrote(count)
+    float::write_patches(values, n, out);
+    Ok(count)
 }

@@ -1,217 +1,196 @@
-// Coons patches of raw numbers. A patch is taken from the list as it stands there: only its first side may come from the patch before.
-ghost use Rattle.std.specs.Prelude.{◌≡◌, true, false, map, ◌+◌, ◌*◌, ◌<◌, ◌≤◌, pos, length, get_or};
-ghost use Rattle.lists.specs.Lists.{part, flat};
-ghost use Rattle.lists.specs.Writing.{Written};
+// Coons patches of raw numbers.
+ghost use Rattle.std.specs.Prelude.{◌≡◌, true, false, map, ◌++◌, ◌+◌, ◌*◌, ◌≤◌, pos, length, drop, IsSome, IfSome};
+ghost use Rattle.lists.specs.Lists.{flat};
+ghost use Rattle.lists.specs.Writing.{put};
 ghost use Rattle.answers.specs.Limits.{most_components, most_numbers};
-ghost use Rattle.rules.specs.Meshes.{groups, size_after};
-ghost use Rattle.tensor.specs.Formulas.{ninefold};
+ghost use Rattle.rules.specs.Meshes.{size_after};
 ghost use Rattle.tensor.specs.Turning.{raw, tensor_patch, numbers_of};
 ghost use Rattle.tensor.specs.Outcomes.{whole_records};
-ghost use Rattle.tensor.specs.Inner.Standing.{patch_in, Within, Takes, patches_of, count_of, FewPatches};
-ghost use Rattle.tensor.specs.Inner.Placing.{spaced, inner_along};
+ghost use Rattle.tensor.specs.Inner.Standing.{patch_in, Sized, Takes, patches_of, count_of};
 
-use records::shape::{Kind, Shape, shape_of};
+use crate::inner_points::{Coordinate, write_along};
+use records::shape::{Kind, Shape};
 
-// A patch by where its numbers stand in the list: the eight points after its first side begin at index own, its colours at c00, c03 and c33, with c30
-// right after c33. The eight coordinates of the first side are here.
+// A patch: the numbers of its first side, and where the list has those of its other eight points and of its colours.
 #[derive(Clone, Copy)]
-struct Coons {
+struct Coons<'a> {
     side: [u32; 8],
-    own: usize,
-    c00: usize,
-    c03: usize,
-    c33: usize,
+    others: &'a [u32],
+    c00: &'a [u32],
+    c03: &'a [u32],
+    c33_c30: &'a [u32],
 }
 
-// How many patches a list has; or that it is not whole records.
-#[derive(Clone, Copy)]
-pub enum Counted {
-    Patches(usize),
-    Broken,
+impl Coordinate for u32 {
+    type Inner = i64;
+
+    ghost turning = { raw };
+
+    // Nine times an inner coordinate. What is added and what is taken away are summed apart.
+    fn inner(a: u32, b: u32, c: u32, d: u32, e: u32, f: u32, g: u32, h: u32) -> i64 {
+        let more = 6 * (b as u64 + c as u64) + 3 * (f as u64 + g as u64);
+        let less = 4 * (a as u64) + 2 * (d as u64 + e as u64) + h as u64;
+        more as i64 - less as i64
+    }
 }
 
-pub fn count_patches(numbers: &[u32], n: usize) -> Counted
-    requires { (n ≤ most_components) × (length numbers.now ≤ most_numbers) }
+// How many patches a list of whole records has.
+pub fn count_patches(numbers: &[u32], n: usize) -> Option<usize>
+    requires components { n ≤ most_components }
+    requires short { length numbers.now ≤ most_numbers }
     ensures value { result ≡ count_of (whole_records (length numbers.now) n false numbers.now) (length (patches_of n numbers.now)) }
-    ensures few_patches { FewPatches (length numbers.now) result }
+    ensures few_patches { IfSome result (λ count. count ≤ length numbers.now) }
 {
     let mut count: usize = 0;
-    let mut i: usize = 0;
-    while i < numbers.len() {
-        let shape = shape_of(Kind::Six, 0 < i, numbers[i]);
-        let Shape::Follows { coords, colours } = shape else {
-            return Counted::Broken;
-        };
-        let size = 1 + coords + colours * n;
-        if numbers.len() - i < size {
-            return Counted::Broken;
-        }
+    let mut rest = numbers;
+    while let Some((flag, own)) = rest.split_first() {
+        let Shape { coords, colours } = Kind::Six.shape(0 < count, *flag)?;
+        rest = own.get(coords + colours * n..)?;
         count += 1;
-        i += size;
     }
-    Counted::Patches(count)
+    Some(count)
 }
 
-// Numbers of a list.
-fn copy(from: &[u32], start: usize, count: usize, to: &mut [u32], at: usize) -> usize
-    requires { (start + count ≤ length from.now) × (at + count ≤ length to.old) }
-    ensures value { result ≡ at + count }
-    ensures written { Written to.old to.new at (part 0 from.now start count) result }
+// The patch of a record, by the numbers after its flag, and those after the record. The first side is the record's own for flag 0. Flag 1 takes over the
+// points 3 to 6 of the patch before, flag 2 its points 6 to 9, flag 3 its points 9, 10, 11 and 0.
+fn take_patch<'a>(
+    before: Option<Coons<'a>>,
+    flag: u32,
+    own: &'a [u32],
+    n: usize,
+) -> (Coons<'a>, &'a [u32])
+    requires few_flags { flag ≤ 3 }
+    requires all_there { size_after 8 n flag ≤ length own.now }
+    requires before_sized { IfSome before (Sized n) }
+    requires joined_to { 1 ≤ flag → IsSome before }
+    ensures taken { Takes n before.entry flag own.now result.0 }
+    ensures sized { Sized n result.0 }
+    ensures rest { result.1.now ≡ drop (size_after 8 n flag) own.now }
 {
-    let mut k: usize = 0;
-    while k < count {
-        to[at + k] = from[start + k];
-        k += 1;
-    }
-    at + count
-}
-
-// The patch of the record at an index. Its first side is the record's own for flag 0. Flag 1 takes over the points 3 to 6 of the patch before, flag 2 its
-// points 6 to 9, flag 3 its points 9, 10, 11 and 0, of which those from 4 on stand at own.
-fn take_patch(before: Coons, numbers: &[u32], n: usize, i: usize) -> Coons
-    requires { (n ≤ most_components) × (length numbers.now ≤ most_numbers) × (get_or numbers.now i 0 ≤ 3) × (i + (1 + size_after 8 n (get_or numbers.now i 0)) ≤ length numbers.now) × (1 ≤ get_or numbers.now i 0 → Within n numbers.now before) }
-    ensures { Takes n numbers.now before i result }
-{
-    let flag = numbers[i];
-    let from = i + 1;
     let mut side = [0u32; 8];
     if flag == 0 {
-        copy(numbers, from, 8, &mut side, 0);
-        return Coons {
-            side,
-            own: from + 8,
-            c00: from + 24,
-            c03: from + 24 + n,
-            c33: from + 24 + 2 * n,
-        };
+        let (first, own) = own.split_at(8);
+        let (others, own) = own.split_at(16);
+        let (c00, own) = own.split_at(n);
+        let (c03, own) = own.split_at(n);
+        let (c33_c30, rest) = own.split_at(2 * n);
+        side.copy_from_slice(first);
+        return (
+            Coons {
+                side,
+                others,
+                c00,
+                c03,
+                c33_c30,
+            },
+            rest,
+        );
     }
-    let old = before.side;
+    let before = before.unwrap();
+    let (others, own) = own.split_at(16);
+    let (c33_c30, rest) = own.split_at(2 * n);
+    let (c33, c30) = before.c33_c30.split_at(n);
     if flag == 1 {
-        let p = copy(&old, 6, 2, &mut side, 0);
-        copy(numbers, before.own, 6, &mut side, p);
-        return Coons {
-            side,
-            own: from,
-            c00: before.c03,
-            c03: before.c33,
-            c33: from + 16,
-        };
+        let (one, three) = side.split_at_mut(2);
+        one.copy_from_slice(&before.side[6..8]);
+        three.copy_from_slice(&before.others[0..6]);
+        return (
+            Coons {
+                side,
+                others,
+                c00: before.c03,
+                c03: c33,
+                c33_c30,
+            },
+            rest,
+        );
     }
     if flag == 2 {
-        copy(numbers, before.own + 4, 8, &mut side, 0);
-        return Coons {
+        side.copy_from_slice(&before.others[4..12]);
+        return (
+            Coons {
+                side,
+                others,
+                c00: c33,
+                c03: c30,
+                c33_c30,
+            },
+            rest,
+        );
+    }
+    let (three, one) = side.split_at_mut(6);
+    three.copy_from_slice(&before.others[10..16]);
+    one.copy_from_slice(&before.side[0..2]);
+    (
+        Coons {
             side,
-            own: from,
-            c00: before.c33,
-            c03: before.c33 + n,
-            c33: from + 16,
-        };
-    }
-    let p = copy(numbers, before.own + 10, 6, &mut side, 0);
-    copy(&old, 0, 2, &mut side, p);
-    Coons {
-        side,
-        own: from,
-        c00: before.c33 + n,
-        c03: before.c00,
-        c33: from + 16,
+            others,
+            c00: c30,
+            c03: before.c00,
+            c33_c30,
+        },
+        rest,
+    )
+}
+
+// The numbers, each times a factor.
+fn write_times(numbers: &[u32], factor: u64, out: &mut [i64])
+    requires small { factor ≤ 9 }
+    requires as_many { length out.old ≡ length numbers.now }
+    ensures { out.new ≡ map (λ x. pos (factor * x)) numbers.now }
+{
+    for (k, place) in out.iter_mut().enumerate() {
+        *place = (factor * numbers[k] as u64) as i64;
     }
 }
 
-// Numbers of a list, each times a factor.
-fn write_times(
-    numbers: &[u32],
-    from: usize,
-    count: usize,
-    factor: u64,
-    out: &mut [i64],
-    at: usize,
-) -> usize
-    requires { (factor ≤ 9) × (from + count ≤ length numbers.now) × (at + count ≤ length out.old) }
-    ensures value { result ≡ at + count }
-    ensures written { Written out.old out.new at (map (λ x. pos (factor * x)) (part 0 numbers.now from count)) result }
+// The colours of a patch, unchanged.
+#[inline(never)]
+fn write_colours(c00: &[u32], c03: &[u32], c33_c30: &[u32], out: &mut [i64])
+    requires as_many { length out.old ≡ length c00.now + length c03.now + length c33_c30.now }
+    ensures { out.new ≡ map pos (c00.now ++ (c03.now ++ c33_c30.now)) }
 {
-    let mut k: usize = 0;
-    while k < count {
-        let x = numbers[from + k] as u64;
-        out[at + k] = (factor * x) as i64;
-        k += 1;
-    }
-    at + count
-}
-
-// Nine times an inner coordinate. What is added and what is taken away are summed apart.
-fn inner(a: u32, b: u32, c: u32, d: u32, e: u32, f: u32, g: u32, h: u32) -> i64
-    ensures { result ≡ ninefold (pos a) (pos b) (pos c) (pos d) (pos e) (pos f) (pos g) (pos h) }
-{
-    let more = 6 * (b as u64 + c as u64) + 3 * (f as u64 + g as u64);
-    let less = 4 * (a as u64) + 2 * (d as u64 + e as u64) + h as u64;
-    more as i64 - less as i64
-}
-
-// The inner four along an axis, each at every second place.
-fn write_along(border: &[u32; 24], axis: usize, out: &mut [i64], at: usize)
-    requires { (axis ≤ 1) × (at + 6 < length out.old) }
-    ensures { out.new ≡ spaced out.old at (inner_along raw (groups 0 border.now 0 12 2) axis) }
-{
-    let p00 = border[axis];
-    let p01 = border[axis + 2];
-    let p02 = border[axis + 4];
-    let p03 = border[axis + 6];
-    let p13 = border[axis + 8];
-    let p23 = border[axis + 10];
-    let p33 = border[axis + 12];
-    let p32 = border[axis + 14];
-    let p31 = border[axis + 16];
-    let p30 = border[axis + 18];
-    let p20 = border[axis + 20];
-    let p10 = border[axis + 22];
-    let p11 = inner(p00, p01, p10, p03, p30, p31, p13, p33);
-    let p12 = inner(p03, p02, p13, p00, p33, p32, p10, p30);
-    let p22 = inner(p33, p32, p23, p30, p03, p02, p20, p00);
-    let p21 = inner(p30, p31, p20, p33, p00, p01, p23, p03);
-    out[at] = p11;
-    out[at + 2] = p12;
-    out[at + 4] = p22;
-    out[at + 6] = p21;
+    let (first, rest) = out.split_at_mut(c00.len());
+    let (second, last) = rest.split_at_mut(c03.len());
+    write_times(c00, 1, first);
+    write_times(c03, 1, second);
+    write_times(c33_c30, 1, last);
 }
 
 // A patch: its border times nine, the inner four, its colours.
-fn write_patch(numbers: &[u32], patch: Coons, n: usize, out: &mut [i64], at: usize) -> usize
-    requires { (n ≤ most_components) × (Within n numbers.now patch) × (at + (32 + 4 * n) ≤ length out.old) }
-    ensures value { result ≡ at + (32 + 4 * n) }
-    ensures written { Written out.old out.new at (numbers_of (tensor_patch raw (patch_in n numbers.now patch))) result }
+fn write_patch(patch: &Coons, n: usize, row: &mut [i64])
+    requires sized { Sized n patch.now }
+    requires room { length row.old ≡ 32 + 4 * n }
+    ensures { row.new ≡ numbers_of (tensor_patch raw (patch_in n patch.now)) }
 {
-    let side = patch.side;
     let mut border = [0u32; 24];
-    let own = copy(&side, 0, 8, &mut border, 0);
-    copy(numbers, patch.own, 16, &mut border, own);
-    let p = write_times(&border, 0, 24, 9, out, at);
-    let colours = p + 8;
-    write_along(&border, 0, out, p);
-    write_along(&border, 1, out, p + 1);
-    let q = write_times(numbers, patch.c00, n, 1, out, colours);
-    let r = write_times(numbers, patch.c03, n, 1, out, q);
-    write_times(numbers, patch.c33, 2 * n, 1, out, r)
+    let (side, others) = border.split_at_mut(8);
+    side.copy_from_slice(&patch.side);
+    others.copy_from_slice(patch.others);
+    let (outer, rest) = row.split_at_mut(24);
+    let (inner, colours) = rest.split_at_mut(8);
+    write_times(&border, 9, outer);
+    write_along(&border, 0, inner);
+    write_along(&border, 1, inner);
+    write_colours(patch.c00, patch.c03, patch.c33_c30, colours);
 }
 
-pub fn write_patches(numbers: &[u32], n: usize, out: &mut [i64]) -> usize
-    requires { (n ≤ most_components) × (length numbers.now ≤ most_numbers) × (whole_records (length numbers.now) n false numbers.now ≡ true) × (length (patches_of n numbers.now) * (32 + 4 * n) ≤ length out.old) }
-    ensures { Written out.old out.new 0 (flat (λ p. numbers_of (tensor_patch raw p)) (patches_of n numbers.now)) result }
+pub fn write_patches(numbers: &[u32], n: usize, out: &mut [i64])
+    requires components { n ≤ most_components }
+    requires short { length numbers.now ≤ most_numbers }
+    requires whole { whole_records (length numbers.now) n false numbers.now ≡ true }
+    requires room { length (patches_of n numbers.now) * (32 + 4 * n) ≤ length out.old }
+    ensures { out.new ≡ put out.old 0 (flat (λ p. numbers_of (tensor_patch raw p)) (patches_of n numbers.now)) }
 {
-    let mut patch = Coons {
-        side: [0; 8],
-        own: 0,
-        c00: 0,
-        c03: 0,
-        c33: 0,
-    };
+    let size = 32 + 4 * n;
+    let mut before = None;
+    let mut rest = numbers;
     let mut at: usize = 0;
-    let mut i: usize = 0;
-    while i < numbers.len() {
-        patch = take_patch(patch, numbers, n, i);
-        at = write_patch(numbers, patch, n, out, at);
-        i = patch.c33 + 2 * n;
+    while let Some((flag, own)) = rest.split_first() {
+        let (patch, after) = take_patch(before, *flag, own, n);
+        write_patch(&patch, n, &mut out[at..at + size]);
+        before = Some(patch);
+        rest = after;
+        at += size;
     }
-    at
 }

@@ -31,5 +31,5 @@ pub returns : goal.returns
 unfolding coons_to_tensor
 returns c =
     let a = c.args in
-    wrote_all rounded _ _ _ _ _ (omega arith) (omega arith) (none_left _ c.if-values-size-gt0.false)
-    (sym (length_read a.n a.values.now)) c.write_patches.ensures
+    wrote_all rounded _ _ _ _ _ (omega arith) (omega arith) (none_left _ c.if-values-size-gt0.false) (8 + a.n) (coons_size a.n + 8)
+    (omega arith) (read_numbered a.n a.values.now) (sym (length_read a.n a.values.now)) (omega arith) c.write_patches.ensures

@@ -1,54 +1,38 @@
--- Where the numbers of a Coons patch stand in a raw list.
-use Rattle.std.specs.Prelude.{ℕ, ◌+◌, ◌*◌, ◌≤◌, ◌≡◌, Bool, cond, List, [], ◌∷◌, ◌++◌, length, get_or, drop}
-use Rattle.std.proofs.Math.Option.{some}
-use Rattle.lists.specs.Lists.{part}
+-- The patches of a raw list, as the code holds them.
+use Rattle.std.specs.Prelude.{ℕ, ◌≡◌, Bool, cond, List, [], ◌∷◌, ◌++◌, ◌*◌, length, take, drop, Option, Some, None}
+use Rattle.std.proofs.Math.Option as maybe
+use Rattle.std.proofs.Math.Option.{some, none}
 use Rattle.rules.specs.Patches.{Patch, patch, sides, patch_of}
-use Rattle.rules.specs.Meshes.{groups, piece, patches, size_after}
+use Rattle.rules.specs.Meshes.{groups, piece, patches}
 use Rattle.tensor.specs.declared.raw.Coons.{Coons}
-use Rattle.tensor.specs.declared.raw.Counted.{Counted}
-use Rattle.tensor.specs.declared.raw.Counted.TheVariants.{Patches, Broken}
 
 abbrev pub Raw : Type 0
 Raw = Patch (List ℕ) (List ℕ)
 
--- the twelve points: four of the side, then eight from index own on
-abbrev pub points_in : List ℕ → List ℕ → ℕ → List (List ℕ)
-points_in xs side own = groups 0 side 0 4 2 ++ groups 0 xs own 8 2
+-- the patch that it is
+unfoldable pub patch_in : ℕ → Coons → Raw
+patch_in n c = patch (groups 0 c.side 0 4 2 ++ groups 0 c.others.now 0 8 2) (c.c00.now ∷ c.c03.now ∷ take n c.c33_c30.now ∷ drop n c.c33_c30.now ∷ [])
 
--- the four colours
-abbrev pub colours_in : ℕ → List ℕ → Coons → List (List ℕ)
-colours_in n xs c = part 0 xs c.c00 n ∷ part 0 xs c.c03 n ∷ part 0 xs c.c33 n ∷ part 0 xs (c.c33 + n) n ∷ []
+-- its other points have 16 numbers, and each colour n
+pub record Sized (n : ℕ) (c : Coons) : Type 0 where
+  pub others : length c.others.now ≡ 16
+  pub c00 : length c.c00.now ≡ n
+  pub c03 : length c.c03.now ≡ n
+  pub c33_c30 : length c.c33_c30.now ≡ 2 * n
 
--- the patch that stands so in the list xs
-unfoldable pub patch_in : ℕ → List ℕ → Coons → Raw
-patch_in n xs c = patch (points_in xs c.side c.own) (colours_in n xs c)
+-- the patch that came before, if any did
+abbrev pub before_in : ℕ → Option Coons → maybe.Option Raw
+before_in n None = none
+before_in n (Some c) = some (patch_in n c)
 
--- all of it is there
-abbrev pub Within : ℕ → List ℕ → Coons → Type 0
-Within n xs c =
-    (c.own + 16 ≤ length xs)
-    × (c.c00 + n ≤ length xs)
-    × (c.c03 + n ≤ length xs)
-    × (c.c33 + 2 * n ≤ length xs)
-    × (length c.side ≡ 8)
-
--- the record at index i makes the patch c, where `before` came before; it ends with the last colour of c
-abbrev pub Takes : ℕ → List ℕ → Coons → ℕ → Coons → Type 0
-Takes n xs before i c =
-    let f : ℕ = get_or xs i 0 in
-    (patch_of sides (some (patch_in n xs before)) f (piece 0 8 n f (drop (i + 1) xs)).body ≡ some (patch_in n xs c))
-    × Within n xs c
-    × (c.c33 + 2 * n ≡ i + (1 + size_after 8 n f))
+-- the record with flag f and the numbers `own` after it makes the patch c, where `before` came before
+abbrev pub Takes : ℕ → Option Coons → ℕ → List ℕ → Coons → Type 0
+Takes n before f own c = patch_of sides (before_in n before) f (piece 0 8 n f own).body ≡ some (patch_in n c)
 
 -- the patches of a list
 abbrev pub patches_of : ℕ → List ℕ → List Raw
 patches_of n xs = patches 0 sides (λ x. x) 8 n xs
 
 -- what the first pass finds
-abbrev pub count_of : Bool → ℕ → Counted
-count_of whole count = cond whole (Patches count) Broken
-
--- no more patches than numbers
-abbrev pub FewPatches : ℕ → Counted → Type 0
-FewPatches size (Patches count) = count ≤ size
-FewPatches size Broken = Unit {0}
+abbrev pub count_of : Bool → ℕ → Option ℕ
+count_of whole count = cond whole (Some count) None

@@ -1,36 +1,48 @@
 -- `tensor::float::write_patches` meets its contract. Assumes nothing.
-use Prim.Native.Nat.{ℕ, ◌+◌, ◌*◌}
-use mathlib.Core.Path.{◌≡◌, refl, sym}
-use native.Mathlib.Nat.{zero-mul}
+use Prim.Native.Nat.{◌+◌, ◌*◌}
+use mathlib.Core.Path.{◌≡◌, refl, sym, ap, ◌∙◌}
 use native.Mathlib.Omega.{arith}
-use Rattle.lists.proofs.Writing.{written_start, written_more}
+use lib.Ieee.{Float}
+use Rattle.std.specs.Slice.Iter.{chunks_exact_rest, chunks_exact_size}
+use Rattle.lists.proofs.Writing.{written_length}
 use Rattle.tensor.specs.Outcomes.{coons_size}
-use Rattle.tensor.proofs.FloatRows.{row_at, next_place, place_there, float_written, rows_read}
+use Rattle.tensor.proofs.Rows.{row_written}
+use Rattle.tensor.proofs.FloatRows.{pass_start, pass_room, pass_next, pass_end}
 use Rattle.tensor.proofs.float.write_patches.Goals as goal
 
-pub loop-k-init : goal.loop-k-init
-loop-k-init c = (omega arith, sym (zero-mul _), sym (zero-mul _), refl, refl, written_start _ 0 _ (omega arith))
+pub loop-patch-init : goal.loop-patch-init
+loop-patch-init c =
+    let made = c.chunks_exact-patch-items.ensures in
+    let same = c.into_iter-patch-iterator.ensures.into_iter_gives in
+    rw same
+    record {
+      can_next = omega (arith, made.size);
+      is_finite = tt;
+      row_is = refl;
+      chunk_is = made.size;
+      long = refl;
+      pass = rw made.rest (pass_start _ _ _);
+    }
 
-pub loop-k-preserved : goal.loop-k-preserved
-loop-k-preserved c =
-    let l = c.loop-k in
-    let a = c.args in
-    let f : l.from ≡ l.k * coons_size a.n = l.invariant.1 in
-    let room = place_there l.k a.count (coons_size a.n + 8) c.loop-k-test.true c.requires.3 in
-    let bordered = c.copy-p.ensures in
-    let coloured = c.copy-at.ensures in
-    let row = float_written a.n a.values.now l.from refl c.copy.ensures.written bordered.written
-    c.write_along.ensures c.write_along-in-loop-k.ensures coloured.written
-    (omega (arith, room, bordered.value)) in (
-      omega arith,
-      omega (arith, next_place l.k (coons_size a.n)),
-      omega (arith, next_place l.k (coons_size a.n + 8), bordered.value, coloured.value),
-      refl,
-      omega arith,
-      written_more l.k (λ (k : ℕ). row_at a.n a.values.now (k * coons_size a.n)) l.invariant.5 (rw f at row),
-    )
+pub loop-patch-preserved : goal.loop-patch-preserved
+loop-patch-preserved c =
+    let l = c.loop-patch.invariant in
+    let s = c.in-Some.ensures.steps in
+    let long = s.1.1 ∙ l.chunk_is in
+    let room = pass_room l.pass _ _ s.1.0 long c.requires.room in
+    let w = row_written c.loop-patch.out c.loop-patch.at (c.loop-patch.at + (coons_size c.args.n + 8)) (c.write_patch.ensures c.args.n long)
+    (omega arith) (omega arith) (omega (arith, room, l.long)) in
+    record {
+      can_next = omega (arith, s.0, l.chunk_is);
+      is_finite = tt;
+      row_is = refl;
+      chunk_is = s.0 ∙ l.chunk_is;
+      long = written_length w ∙ l.long;
+      pass = pass_next l.pass _ _ s.1.0 long refl w;
+    }
 
 pub returns : goal.returns
 returns c =
-    let e : c.loop-k.k ≡ c.args.count = omega arith in
-    rw (← (rows_read c.args.n c.args.values.now c.args.count c.requires.2)) (rw e at c.loop-k.invariant.5)
+    let l = c.loop-patch.invariant in
+    let s = c.in-None.ensures.steps in
+    (pass_end l.pass (omega (arith, s.1.0, l.chunk_is)) c.requires.whole).held

@@ -1,18 +1,16 @@
 -- `tensor::raw::write_patch` meets its contract. Assumes nothing.
 use native.Mathlib.Omega.{arith}
-use Rattle.lists.proofs.Writing.{written_then}
-use Rattle.lists.proofs.Parts.{written_whole}
-use Rattle.tensor.proofs.RawRows.{raw_written}
+use Rattle.tensor.proofs.RawRows.{raw_row}
 use Rattle.tensor.proofs.raw.write_patch.Goals as goal
 
-pub returns-clause-written : goal.returns-clause-written
-returns-clause-written c =
-    let w4 = c.write_times.ensures in
-    let w3 = c.write_times-r.ensures in
-    let w2 = c.write_times-q.ensures in
-    let w1 = c.write_times-p.ensures in
-    let second = c.copy.ensures in
-    let first = c.copy-own.ensures in
-    let a = c.args in
-    raw_written a.n a.numbers.now a.patch _ (written_whole (written_then first.written second.written) (omega (arith, first.value, second.value)))
-    w1.written c.write_along.ensures c.write_along-2.ensures w2.written w3.written w4.written (omega (arith, c.requires.2, w1.value))
+pub returns : goal.returns
+returns c =
+    let row = raw_row c.args.n c.args.patch.now _ c.split_at_mut-inner.result.0.now (cc (c.copy_from_slice.ensures.after, c.copy_from_slice-2.ensures.after)) (omega arith)
+    c.requires.sized.others (omega arith) in
+    rw (
+      c.write_times.ensures,
+      c.write_along-2.ensures,
+      c.write_along.ensures,
+      c.write_colours.ensures,
+    )
+    row

@@ -1,33 +1,42 @@
 -- `tensor::raw::write_patches` meets its contract. Assumes nothing.
-use mathlib.Core.Path.{refl, ◌∙◌}
+use Prim.Native.Nat.{◌+◌, ◌*◌}
+use mathlib.Core.Path.{◌≡◌, refl, ◌∙◌}
+use mathlib.Core.List.{[]}
 use native.Mathlib.Omega.{arith}
 use Rattle.lists.proofs.Writing.{written_length}
-use Rattle.tensor.proofs.Passing.{pass_start, here, has_side, pass_room, pass_next, pass_end}
+use Rattle.tensor.proofs.Rows.{nothing_left, row_written}
+use Rattle.tensor.proofs.Passing.{pass_start, here, joined_to, pass_room, pass_next, pass_end}
 use Rattle.tensor.proofs.raw.write_patches.Goals as goal
 
-pub loop-i-init : goal.loop-i-init
-loop-i-init c = (omega arith, refl, pass_start _ _ _ _)
+pub loop-flag-init : goal.loop-flag-init
+loop-flag-init c = record { size_is = refl; long = refl; pass = pass_start _ _ _ }
 
-pub take_patch-patch-requires : goal.take_patch-patch-requires
-take_patch-patch-requires c =
-    let a = c.requires in
-    let p = c.loop-i.invariant.2 in
-    let r = here p a.2 c.loop-i-test.true in
-    (a.0, a.1, r.follows.few, r.fits, has_side p a.2 c.loop-i-test.true)
+pub take_patch-requires-clause-few_flags : goal.take_patch-requires-clause-few_flags
+take_patch-requires-clause-few_flags c = (here c.loop-flag.invariant.pass c.requires.whole c.in-Some.ensures.cases.0).follows.few
 
-pub write_patch-at-requires : goal.write_patch-at-requires
-write_patch-at-requires c =
-    let a = c.requires in
-    let l = c.loop-i in
-    let t = c.take_patch-patch.ensures in
-    (a.0, t.1, omega (arith, pass_room l.invariant.2 a.2 c.loop-i-test.true _ t a.3, l.invariant.1))
+pub take_patch-requires-clause-all_there : goal.take_patch-requires-clause-all_there
+take_patch-requires-clause-all_there c = (here c.loop-flag.invariant.pass c.requires.whole c.in-Some.ensures.cases.0).fits
 
-pub loop-i-preserved : goal.loop-i-preserved
-loop-i-preserved c =
-    let l = c.loop-i in
-    let t = c.take_patch-patch.ensures in
-    let w = c.write_patch-at.ensures.written in
-    (t.1.3, written_length w ∙ l.invariant.1, pass_next l.invariant.2 c.requires.2 c.loop-i-test.true _ t w)
+pub take_patch-requires-clause-joined_to : goal.take_patch-requires-clause-joined_to
+take_patch-requires-clause-joined_to c = joined_to c.loop-flag.invariant.pass c.requires.whole c.in-Some.ensures.cases.0
+
+pub slice_bounds-write_patch-end : goal.slice_bounds-write_patch-end
+slice_bounds-write_patch-end c =
+    let l = c.loop-flag.invariant in
+    let room = pass_room l.pass c.requires.whole c.in-Some.ensures.cases.0 _ c.take_patch.ensures.taken c.requires.room in
+    omega (arith, room, l.long)
+
+pub loop-flag-preserved : goal.loop-flag-preserved
+loop-flag-preserved c =
+    let l = c.loop-flag.invariant in
+    let t = c.take_patch.ensures in
+    let room = pass_room l.pass c.requires.whole c.in-Some.ensures.cases.0 _ t.taken c.requires.room in
+    let w = row_written c.loop-flag.out c.loop-flag.at (c.loop-flag.at + (32 + 4 * c.args.n)) c.write_patch.ensures (omega arith) (omega arith) (omega (arith, room, l.long)) in
+    record {
+      size_is = refl;
+      long = written_length w ∙ l.long;
+      pass = pass_next l.pass c.requires.whole c.in-Some.ensures.cases.0 _ t.taken t.sized t.rest w;
+    }
 
 pub returns : goal.returns
-returns c = pass_end c.loop-i.invariant.2 (omega arith)
+returns c = (pass_end c.loop-flag.invariant.pass (nothing_left _ (omega (arith, c.in_default.ensures.cases)))).held

@@ -1,4 +1,4 @@
--- `tensor::raw::inner` meets its contract. Assumes nothing.
+-- `tensor::raw::U32Coordinate::inner` meets its contract. Assumes nothing.
 use Prim.Native.Nat.{◌+◌, ◌*◌, ◌^◌, ◌<◌}
 use mathlib.Core.Path.{sym}
 use native.Mathlib.Omega.{arith}
@@ -7,7 +7,7 @@ use mir.Facts.{to_z_pos}
 use Rattle.tensor.specs.Formulas.{ninefold}
 use Rattle.tensor.proofs.Signed.{told, difference_fits}
 use Rattle.tensor.proofs.Differences.{gathered}
-use Rattle.tensor.proofs.raw.inner.Goals as goal
+use Rattle.tensor.proofs.raw.U32Coordinate.inner.Goals as goal
 
 pub returns : goal.returns
 unfolding ninefold
