@@ -1,7 +1,7 @@
 -- Patches of f64, one after the other. Assumes nothing.
 use Prim.Native.Nat.{ℕ, suc, ◌+◌, ◌*◌, ◌/◌, ◌%◌, ◌≤◌, ◌<◌}
 use mathlib.Core.Path.{◌≡◌, refl, sym, ap, ap₂, ◌∙◌}
-use mathlib.Core.List.{List, [], ◌∷◌, ◌++◌, map, map-id, append-nil}
+use mathlib.Core.List.{List, [], ◌∷◌, ◌++◌, map-id, append-nil}
 use native.Mathlib.Nat.{add-zero, zero-mul, suc-mul, mul-le-mul_right, mul-div_cancel}
 use Rattle.std.proofs.Math.Nat.{le-div_iff_mul-le, mod-eq-sub-div-mul, div-mul-le_self}
 use Rattle.std.proofs.lemmas.Nat.{div-mul-add}

@@ -6,7 +6,7 @@ use mathlib.Core.Option.{some}
 use Rattle.std.specs.Prelude.{Option, Some, IfSome}
 use native.Mathlib.Nat.{zero-add, add-zero, add-suc, one-mul, zero-mul, suc-mul, mul-le-mul_right}
 use native.Mathlib.Omega.{arith}
-use lib.ListN.{length, get_or, get_elem?, take, drop, length-drop}
+use lib.ListN.{length, get_elem?, take, drop, length-drop}
 use lib.Seq.{drop-drop, take_at, drop_at, length-take-le}
 use Rattle.lists.specs.Lists.{joined, part, flat}
 use Rattle.lists.proofs.Pieces.{joined_same, length_part, part_take, part_then}

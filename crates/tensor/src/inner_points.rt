@@ -11,7 +11,7 @@ pub trait Coordinate: Copy {
 
     ghost turning: { Turning Self Self.Inner };
 
-    // The formula of eight points. They are the formula's own eight, in its order.
+    // The formula of eight points: one by one, as the clause's formula names them.
     fn inner(a: Self, b: Self, c: Self, d: Self, e: Self, f: Self, g: Self, h: Self) -> Self::Inner
         ensures { result ≡ turning.inner a b c d e f g h };
 }
@@ -23,6 +23,7 @@ pub fn write_along<C: Coordinate>(border: &[C; 24], axis: usize, out: &mut [C::I
     requires four_points { length out.old ≡ 8 }
     ensures { out.new ≡ spaced out.old axis (inner_along C.turning (groups C.turning.missing border.now 0 12 2) axis) }
 {
+    // By index: a pattern would also name a hole for each number of the other axis.
     let p00 = border[axis];
     let p01 = border[axis + 2];
     let p02 = border[axis + 4];

@@ -144,7 +144,7 @@ fn write_times(numbers: &[u32], factor: u64, out: &mut [i64])
     }
 }
 
-// The colours of a patch, unchanged.
+// The colours of a patch, unchanged. Out of line, since the loop over long lists is faster so.
 #[inline(never)]
 fn write_colours(c00: &[u32], c03: &[u32], c33_c30: &[u32], out: &mut [i64])
     requires as_many { length out.old ≡ length c00.now + length c03.now + length c33_c30.now }

@@ -1,9 +1,7 @@
 -- `tensor::float::write_patches` meets its contract. Assumes nothing.
-use Prim.Native.Nat.{◌+◌, ◌*◌}
-use mathlib.Core.Path.{◌≡◌, refl, sym, ap, ◌∙◌}
+use Prim.Native.Nat.{◌+◌}
+use mathlib.Core.Path.{refl, ◌∙◌}
 use native.Mathlib.Omega.{arith}
-use lib.Ieee.{Float}
-use Rattle.std.specs.Slice.Iter.{chunks_exact_rest, chunks_exact_size}
 use Rattle.lists.proofs.Writing.{written_length}
 use Rattle.tensor.specs.Outcomes.{coons_size}
 use Rattle.tensor.proofs.Rows.{row_written}

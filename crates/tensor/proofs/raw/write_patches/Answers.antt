@@ -1,7 +1,6 @@
 -- `tensor::raw::write_patches` meets its contract. Assumes nothing.
 use Prim.Native.Nat.{◌+◌, ◌*◌}
-use mathlib.Core.Path.{◌≡◌, refl, ◌∙◌}
-use mathlib.Core.List.{[]}
+use mathlib.Core.Path.{refl, ◌∙◌}
 use native.Mathlib.Omega.{arith}
 use Rattle.lists.proofs.Writing.{written_length}
 use Rattle.tensor.proofs.Rows.{nothing_left, row_written}

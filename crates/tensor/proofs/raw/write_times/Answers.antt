@@ -1,12 +1,12 @@
 -- `tensor::raw::write_times` meets its contract: after k turns the first k numbers stand. Assumes nothing.
 use Prim.Native.Nat.{ℕ, ◌*◌}
-use mathlib.Core.Path.{◌≡◌, sym, ◌∙◌}
+use mathlib.Core.Path.{◌≡◌, ◌∙◌}
 use native.Mathlib.Omega.{arith}
-use lib.IntN.{ℤ, pos}
+use lib.IntN.{pos}
 use lib.ListN.{length, get_or}
 use mir.Syntax.{w64}
 use mir.Facts.{to_z_pos}
-use Rattle.lists.proofs.Writing.{written_start, written_store, written_length}
+use Rattle.lists.proofs.Writing.{written_start, written_store}
 use Rattle.lists.proofs.Parts.{written_whole}
 use Rattle.tensor.proofs.RawRows.{times_small, mapped_all}
 use Rattle.tensor.proofs.raw.write_times.Goals as goal
