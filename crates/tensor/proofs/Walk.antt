@@ -34,7 +34,6 @@ size_of n s = s.coords + s.colours * n
 -- a record with the flag x follows, of that shape
 pub record Followed (n : ℕ) (started : Bool) (x : ℕ) (s : Shape) : Type 0 where
   pub sized : size_of n s ≡ size_after 8 n x
-  pub small : size_of n s ≤ 24 + 4 * n
   pub few : x ≤ 3
   pub begun : 1 ≤ x → started ≡ true
 
@@ -45,13 +44,13 @@ size_in n None = 0
 pub followed : (n : ℕ) (started : Bool) (x : ℕ) (s : Shape) → shape_of Six started x ≡ Some s → Followed n started x s
 followed n started zero s e =
     let k : suc (24 + 4 * n) ≡ suc (size_of n s) = ap (size_in n) e in
-    record { sized = omega arith; small = omega arith; few = omega arith; begun = λ h. absurd (omega arith) }
+    record { sized = omega arith; few = omega arith; begun = λ h. absurd (omega arith) }
 followed n started (suc f) s e = go started refl (leb (suc f) 3) refl (rw (eqb-suc-zero f) at e)
   where
     go : (t : Bool) → started ≡ t → (u : Bool) → leb (suc f) 3 ≡ u → cond (t && u) (follows 16 2) None ≡ Some s → Followed n started (suc f) s
     go true p true q e =
         let k : suc (16 + 2 * n) ≡ suc (size_of n s) = ap (size_in n) e in
-        record { sized = omega arith; small = omega arith; few = leb-true (suc f) 3 q; begun = λ h. p }
+        record { sized = omega arith; few = leb-true (suc f) 3 q; begun = λ h. p }
     go true p false q e = absurd (cc)
     go false p u q e = absurd (cc)
 

@@ -11,7 +11,7 @@ ghost use Rattle.tensor.specs.Inner.Standing.{patch_in, Sized, Takes, patches_of
 use crate::inner_points::{Coordinate, write_along};
 use records::shape::{Kind, Shape};
 
-// A patch: the numbers of its first side, and where the list has those of its other eight points and of its colours.
+// A patch: the numbers of its first side, and where the list has those of its other eight points and of its colours. c30 follows c33 there.
 #[derive(Clone, Copy)]
 struct Coons<'a> {
     side: [u32; 8],
