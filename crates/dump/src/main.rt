@@ -1,9 +1,8 @@
 // Lists the mesh file that comes on standard input, or the one that the argument names: document 01, "Dump program".
 #![tactic(auto)]
 
-ghost use Rattle.std.specs.Prelude.{◌-◌, ◌≤◌, length, take};
+ghost use Rattle.std.specs.Prelude.{◌≡◌, ◌≤◌, length, take, IfOk, IfSome};
 ghost use Rattle.lists.specs.Writing.{Written};
-ghost use Rattle.dump.specs.Inner.Reading.{Within};
 
 use std::fs::File;
 use std::io::{Read, Write};
@@ -12,56 +11,38 @@ use std::{env, io};
 // One byte more than a file may have, so that one byte too many is seen.
 const ROOM: usize = 65537;
 
-// What came: so many bytes; or a read failed.
-#[derive(Drop)]
-enum Input {
-    Bytes(usize),
-    Failed(io::Error),
+// Copies as many bytes as there is room for, and answers how many.
+fn keep(came: &[u8], room: &mut [u8]) -> usize
+    ensures { Written room.old room.new 0 (take (length room.old) came.now) result }
+{
+    let kept = came.len().min(room.len());
+    room[..kept].copy_from_slice(&came[..kept]);
+    kept
 }
 
-// Writes the bytes that came to the file from an index on, as many as there is room for, and answers the index after them.
-fn keep(came: &[u8], file: &mut [u8], at: usize) -> usize
-    requires { at ≤ length file.old }
-    ensures { Written file.old file.new at (take (length file.old - at) came.now) result }
+// Reads to the end, and drops what there is no room for; answers how many bytes were kept.
+fn read_input<R: Read>(reader: &mut R, file: &mut [u8]) -> io::Result<usize>
+    ensures fits { IfOk result (λ kept. kept ≤ length file.new) }
+    ensures first { IfOk result (λ kept. IfSome (R.remaining reader.old) (λ xs. take kept file.new ≡ take (length file.new) xs)) }
 {
-    let mut k: usize = 0;
-    while k < came.len() {
-        let next = at + k;
-        if next == file.len() {
-            return next; // the rest is dropped
-        }
-        file[next] = came[k];
-        k += 1;
-    }
-    at + k
-}
-
-// Reads to the end, and drops what there is no room for.
-fn read_input<R: Read>(reader: &mut R, file: &mut [u8]) -> Input
-    ensures { Within result file.new }
-{
-    let mut at: usize = 0;
+    let mut at = 0;
     for _ in 0..u64::MAX {
-        let mut came = [0u8; 4096];
-        match reader.read(&mut came) {
-            Ok(0) => return Input::Bytes(at),
-            Ok(n) => at = keep(&came[..n], file, at),
-            Err(error) => return Input::Failed(error),
+        let mut came = [0; 4096];
+        match reader.read(&mut came)? {
+            0 => return Ok(at),
+            count => at += keep(&came[..count], &mut file[at..]),
         }
     }
-    Input::Failed(io::Error::from(io::ErrorKind::Other))
+    Err(io::ErrorKind::Other.into())
 }
 
 // Lists what a reader gives.
 fn list<R: Read>(rt: &impl Print, reader: &mut R) -> io::Result<()> {
     let mut file = [0u8; ROOM];
-    let n = match read_input(reader, &mut file) {
-        Input::Bytes(n) => n,
-        Input::Failed(error) => return Err(error),
-    };
+    let length = read_input(reader, &mut file)?;
     let mut listing = [0u8; msf::LISTING];
-    let length = msf::list_file(&file[0..n], &mut listing);
-    io::writer(rt).write_all(&listing[0..length])
+    let listed = msf::list_file(&file[..length], &mut listing);
+    io::writer(rt).write_all(&listing[..listed])
 }
 
 // Lists the file that the argument names.

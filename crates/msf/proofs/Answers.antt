@@ -13,7 +13,7 @@ use Rattle.lists.specs.Lists.{All, Begins}
 use Rattle.lists.proofs.Pieces.{length_part}
 use Rattle.answers.specs.declared.Refusal.{Refusal}
 use Rattle.answers.specs.declared.Refusal.TheVariants.{Layout, Components, Length, Room, Record, Thin, File}
-use Rattle.answers.specs.declared.Answer.TheVariants.{Wrote, Refused}
+use Rattle.std.specs.Prelude.{Ok, Err}
 use Rattle.answers.specs.Limits.{most_components, most_bytes}
 use Rattle.answers.specs.Outcome.{number_of, Outcome, refused, wrote, fitted, Done}
 use Rattle.answers.proofs.Outcomes.{passed}
@@ -36,7 +36,7 @@ use Rattle.meshes.specs.Outcomes.{Stream, raw_of, decode_of, parsed, ported_read
 use Rattle.meshes.proofs.Standing.{reads_decode}
 use Rattle.triangles.proofs.Writing.{length-mesh}
 use Rattle.msf.specs.Inner.Kinds.{stride_of}
-use Rattle.msf.specs.File.{most_answer, components, row_length, answer_of}
+use Rattle.msf.specs.File.{most_answer}
 
 -- ---- refusals and answers
 
@@ -57,23 +57,23 @@ pub record Begun {A : Type 0} (o : Outcome A) (count : ℕ) (exit : List A) : Ty
 
 module _ {A : Type 0} {entry exit : List A} where
   -- the outcome of a call that refused
-  pub outcome_refused : (o : Outcome A) (r : Refusal) → Done o entry (Refused r) exit → o ≡ refused r
+  pub outcome_refused : (o : Outcome A) (r : Refusal) → Done o entry (Err r) exit → o ≡ refused r
   outcome_refused (refused q) r d =
-      let e : Refused r ≡ Refused q = one_answer (Refused r) (Refused q) d.answered in
+      let e : Err r ≡ Err q = one_answer (Err r) (Err q) d.answered in
       cc
   outcome_refused (wrote k xs) r d =
-      let e : Refused r ≡ Wrote k = one_answer (Refused r) (Wrote k) d.answered in
+      let e : Err r ≡ Ok k = one_answer (Err r) (Ok k) d.answered in
       let z : ◌≡◌ {A = ℕ} 0 1 = cc in
       absurd (omega arith)
 
   -- and of one that wrote
-  pub outcome_wrote : (o : Outcome A) {count : ℕ} → Done o entry (Wrote count) exit → Begun o count exit
+  pub outcome_wrote : (o : Outcome A) {count : ℕ} → Done o entry (Ok count) exit → Begun o count exit
   outcome_wrote (refused q) {count} d =
-      let e : Wrote count ≡ Refused q = one_answer (Wrote count) (Refused q) d.answered in
+      let e : Ok count ≡ Err q = one_answer (Ok count) (Err q) d.answered in
       let z : ◌≡◌ {A = ℕ} 0 1 = cc in
       absurd (omega arith)
   outcome_wrote (wrote k xs) {count} d =
-      let e : Wrote count ≡ Wrote k = one_answer (Wrote count) (Wrote k) d.answered in
+      let e : Ok count ≡ Ok k = one_answer (Ok count) (Ok k) d.answered in
       record {
         numbers = xs;
         is = cc;
@@ -135,10 +135,10 @@ parsed_sized m mesh s stride {count} {xs} h e =
       fits = rw (← same) (ltb-false _ _ room.0);
     }
 
-pub answer_sized : (kind : Kind) (s : List ℕ) {count : ℕ} {xs : List Float} → answer_of kind s ≡ wrote count xs
-    → Sized (stride_of kind (components s)) (components s) count xs
-unfolding answer_of ported_reader stride_of
-answer_sized Four s e = parsed_sized _ (type4_mesh (binary_reader none 0)) _ _ (length_type4 _ _ _ (binary_reader none 0)) e
-answer_sized Five s e = parsed_sized _ (type5_mesh (row_length s)) _ _ (length_type5 _ _ _ (row_length s)) e
-answer_sized Six s e = parsed_sized _ (patch_mesh sides 8) _ _ (length-patches _ _ _ 8 sides_fit.0) e
-answer_sized Seven s e = parsed_sized _ (patch_mesh sides 12) _ _ (length-patches _ _ _ 12 sides_fit.1) e
+pub reader_sized : (kind : Kind) (s : List ℕ) (coord comp flag : ℕ) (entries : List Float) (n row : ℕ) {count : ℕ} {xs : List Float}
+    → ported_reader kind s coord comp flag entries n row most_answer ≡ wrote count xs → Sized (stride_of kind n) n count xs
+unfolding ported_reader
+reader_sized Four s coord comp flag entries n row e = parsed_sized _ (type4_mesh (binary_reader none 0)) _ _ (length_type4 _ _ _ (binary_reader none 0)) e
+reader_sized Five s coord comp flag entries n row e = parsed_sized _ (type5_mesh row) _ _ (length_type5 _ _ _ row) e
+reader_sized Six s coord comp flag entries n row e = parsed_sized _ (patch_mesh sides 8) _ _ (length-patches _ _ _ 8 sides_fit.0) e
+reader_sized Seven s coord comp flag entries n row e = parsed_sized _ (patch_mesh sides 12) _ _ (length-patches _ _ _ 12 sides_fit.1) e

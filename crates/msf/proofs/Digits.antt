@@ -1,18 +1,20 @@
 -- Numbers as text, digit by digit. Assumes nothing.
-use Prim.Native.Nat.{ℕ, zero, suc, ◌+◌, ◌/◌, ◌%◌, ◌≤◌, ◌<◌}
-use mathlib.Core.Path.{◌≡◌, refl, sym, ap, ◌∙◌, subst}
-use mathlib.Core.Bool.{Bool, true, false, not, cond}
-use mathlib.Core.List.{List, [], ◌∷◌, ◌++◌, append_assoc, append-nil}
-use native.Mathlib.Nat.{add-zero}
+use Prim.Native.Nat.{ℕ, zero, suc, ◌+◌, ◌-◌, ◌*◌, ◌/◌, ◌%◌, ◌^◌, ◌≤◌, ◌<◌}
+use mathlib.Core.Path.{◌≡◌, refl, ap}
+use mathlib.Core.Bool.{Bool, true, false, cond}
+use mathlib.Core.List.{List, [], ◌∷◌, ◌++◌}
+use native.Mathlib.Nat.{div-one, div-div-eq-div-mul}
+use Rattle.std.proofs.lemmas.Nat.{pow-add}
 use native.Mathlib.Omega.{arith}
-use lib.Dec.{T, ltb}
-use lib.ListN.{length, set}
-use lib.Ieee.{Float, nan, inf, fin, binary64, ne, is_nan, to_bits}
-use lib.Ieee.Compare.{nan_differs}
-use borrow.Author.Tests.{lt-ltb, le-ltb, ltb-false}
-use Rattle.lists.specs.Writing.{Written}
-use Rattle.lists.proofs.Writing.{written_length, written_none, written_one}
-use Rattle.lists.proofs.Parts.{written_before_it}
+use lib.Dec.{ltb}
+use lib.ListN.{length, length-append}
+use lib.Ieee.{Float, nan, inf, fin, binary64, is_nan, to_bits}
+use borrow.Author.Tests.{lt-ltb, le-ltb, ltb-false, ltb-true}
+use denote.Enum.Declared.{tag_of}
+use Rattle.records.specs.contracts.shape.Kind.{the_type}
+use Rattle.records.specs.declared.shape.Kind.{Kind}
+use Rattle.records.specs.declared.shape.Kind.TheVariants.{Four, Five, Six, Seven}
+use Rattle.msf.specs.Listing.{type_of}
 use Rattle.msf.specs.Text.{glyph, hex, decimal_to, decimal, float_text}
 
 -- ---- decimal
@@ -36,54 +38,65 @@ pub decimal_one : (v : ℕ) → v < 10 → decimal v ≡ glyph v ∷ []
 unfolding decimal decimal_to
 decimal_one v h = simp (lt-ltb v 10 h)
 
+-- a mesh type's number has one digit
+pub kind_digit : (kind : Kind) → decimal (type_of kind) ≡ glyph (tag_of the_type kind + 4) ∷ []
+kind_digit Four = decimal_one 4 (omega arith)
+kind_digit Five = decimal_one 5 (omega arith)
+kind_digit Six = decimal_one 6 (omega arith)
+kind_digit Seven = decimal_one 7 (omega arith)
+
 pub decimal_more : (v : ℕ) → 10 ≤ v → decimal v ≡ decimal (v / 10) ++ (glyph (v % 10) ∷ [])
 unfolding decimal decimal_to
 decimal_more v h = simp (le-ltb v 10 h) (rw (decimal_same v (suc (v / 10)) (v / 10) (omega arith) (omega arith)))
 
--- ---- base 16, the lowest digit first
+pub length-decimal_one : (v : ℕ) → v < 10 → length (decimal v) ≡ 1
+length-decimal_one v h = rw (decimal_one v h) refl
 
--- k digits are left to be stored, those of rest
-pub record Digits (v : ℕ) (entry exit : List ℕ) (at rest k : ℕ) : Type 0 where
-  pub done : List ℕ
-  pub split : hex 16 v ≡ hex k rest ++ done
-  pub written : Written entry exit (at + k) done (at + 16)
+pub length-decimal_more : (v : ℕ) → 10 ≤ v → length (decimal v) ≡ length (decimal (v / 10)) + 1
+length-decimal_more v h = rw (decimal_more v h) (length-append (decimal (v / 10)) (glyph (v % 10) ∷ []))
 
-pub digits_start : (v : ℕ) (l : List ℕ) (at : ℕ) → at + 16 ≤ length l → Digits v l l at v 16
-digits_start v l at h = record { done = []; split = sym (append-nil _); written = written_none l (at + 16) h }
+-- one digit more for numbers ten times as large
+longer : (m k v : ℕ) → ((u : ℕ) → u < m → length (decimal u) ≤ k) → v < 10 * m → length (decimal v) ≤ k + 1
+longer m k v short h =
+    elim (ltb v 10) as (λ b. ltb v 10 ≡ b → length (decimal v) ≤ k + 1) [
+      | true ↦ (λ e. omega (arith, length-decimal_one v (ltb-true v 10 e)))
+      | false ↦ (λ e. let g : 10 ≤ v = ltb-false v 10 e in omega (arith, length-decimal_more v g, short (v / 10) (omega arith)))
+    ] refl
 
-pub digits_step : {v : ℕ} {l o : List ℕ} {at rest k : ℕ} (j : ℕ) → k ≡ suc j → Digits v l o at rest k
-    → Digits v l (set o (at + j) (glyph (rest % 16))) at (rest / 16) j
-unfolding hex
-digits_step {v} {l} {o} {at} {rest} {k} j e d =
-    let w = d.written in
-    let n = written_length w in
-    let r = w.room in
-    let s : hex 16 v ≡ hex (suc j) rest ++ d.done = rw e at d.split in
-    record {
-      done = glyph (rest % 16) ∷ d.done;
-      split = s ∙ append_assoc (hex j (rest / 16)) (glyph (rest % 16) ∷ []) d.done;
-      written = written_before_it w (written_one o (at + j) (glyph (rest % 16)) (omega arith)) (omega arith);
-    }
+pub length-decimal : (v : ℕ) → v < 1000 → length (decimal v) ≤ 3
+length-decimal v h = longer 100 2 v (λ u a. longer 10 1 u (λ w b. omega (arith, length-decimal_one w b)) a) h
 
-pub digits_end : {v : ℕ} {l o : List ℕ} {at rest k : ℕ} → k ≡ 0 → Digits v l o at rest k → Written l o at (hex 16 v) (at + 16)
-unfolding hex
-digits_end e d = rw (d.split, e) (rw (e, add-zero) at d.written)
+-- ---- base 16
+
+-- the digits above the k lowest
+unfoldable pub high_digits : ℕ → ℕ → List ℕ
+high_digits v k = hex (16 - k) (v / 2 ^ (4 * k))
+
+pub no_digits : (v : ℕ) → high_digits v 16 ≡ []
+unfolding high_digits hex
+no_digits v = refl
+
+pub digits_more : (v k : ℕ) → k < 16 → high_digits v k ≡ high_digits v (k + 1) ++ (glyph (v / 2 ^ (4 * k) % 16) ∷ [])
+unfolding high_digits hex
+digits_more v k h =
+    let e : 16 - k ≡ suc (16 - (k + 1)) = omega arith in
+    let q : v / 2 ^ (4 * k) / 16 ≡ v / 2 ^ (4 * (k + 1)) = rw (div-div-eq-div-mul, ← (pow-add 2 (4 * k) 4)) (ap (λ (n : ℕ). v / 2 ^ n) (omega arith)) in
+    rw (e, q) refl
+
+pub all_digits : (v : ℕ) → high_digits v 0 ≡ hex 16 v
+unfolding high_digits
+all_digits v = rw div-one refl
 
 -- ---- floats
 
--- a float that does not differ from itself has bits
-pub not_nan : (x : Float) → ne x x ≡ false → T (not (is_nan x))
-unfolding is_nan
-not_nan nan h = absurd (subst T h (subst T (sym nan_differs) tt))
-not_nan (inf s) h = tt
-not_nan (fin s m e) h = tt
-
-pub float_digits : (x : Float) → T (not (is_nan x)) → float_text x ≡ hex 16 (to_bits binary64 x)
+pub float_digits : (x : Float) → is_nan x ≡ false → float_text x ≡ hex 16 (to_bits binary64 x)
 unfolding is_nan float_text
-float_digits nan h = absurd h
+float_digits nan h = cc
 float_digits (inf s) h = refl
 float_digits (fin s m e) h = refl
 
-pub float_nan : (x : Float) → x ≡ nan → float_text x ≡ 110 ∷ 97 ∷ 110 ∷ []
-unfolding float_text
-float_nan x e = rw e
+pub float_nan : (x : Float) → is_nan x ≡ true → float_text x ≡ 110 ∷ 97 ∷ 110 ∷ []
+unfolding is_nan float_text
+float_nan nan h = refl
+float_nan (inf s) h = cc
+float_nan (fin s m e) h = cc

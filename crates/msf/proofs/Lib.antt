@@ -5,3 +5,6 @@ pub mod OneListing
 pub mod Digits
 pub mod Words
 pub mod Meshes
+pub mod Appending
+pub mod Chunks
+pub mod Headers

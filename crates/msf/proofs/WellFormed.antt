@@ -1,67 +1,53 @@
--- The tests that make a file well-formed, one after the other, and the listing that they decide. Assumes nothing.
-use Prim.Native.Nat.{ℕ, ◌≤◌, ◌<◌}
-use mathlib.Core.Path.{◌≡◌}
-use mathlib.Core.Bool.{true, false, and-eq-true_iff}
+-- What makes a file well-formed, and the listing of one that is not. Assumes nothing.
+use Prim.Native.Nat.{ℕ, ◌≤◌}
+use mathlib.Core.Path.{◌≡◌, refl}
+use mathlib.Core.Bool.{true, false, cond, and-eq-true_iff}
 use mathlib.Core.List.{List}
-use mathlib.Core.Option.{none, some}
-use native.Mathlib.Omega.{arith}
-use borrow.Author.Tests.{le-leb, lt-leb, eq-eqb, ne_eqb, leb-true}
-use lib.Dec.{leb}
+use borrow.Author.Tests.{le-leb, eq-eqb, leb-true, eqb-true}
 use lib.ListN.{length, get_or}
+use Rattle.std.proofs.Common.{Some, None}
 use Rattle.answers.specs.Outcome.{number_of}
 use Rattle.answers.specs.declared.Refusal.TheVariants.{File}
-use Rattle.decode.specs.Inner.Reading.{big_endian_or0}
-use Rattle.decode.proofs.BigEndian.{number_there}
 use Rattle.records.specs.declared.shape.Kind.{Kind}
 use Rattle.msf.specs.Listing.{refused_line, listing}
 use Rattle.msf.specs.File.{most_file, mark, version, components, data_at, kind_of, well_formed, answer_of, listing_of_kind, file_listing}
 
+-- the tests of a file but that of its type
+pub record Tests (s : List ℕ) : Type 0 where
+  pub short : length s ≤ most_file
+  pub enough : 13 ≤ length s
+  pub marked : mark s ≡ 5067590
+  pub first : version s ≡ 1
+  pub there : data_at s ≤ length s
+
 module _ (s : List ℕ) where
-  pub too_long : most_file < length s → false ≡ well_formed s
+  pub passed : Tests s → well_formed s ≡ true
   unfolding well_formed
-  too_long h = simp (lt-leb _ _ h)
+  passed t = rw (le-leb _ _ t.short, le-leb _ _ t.enough, eq-eqb _ _ t.marked, eq-eqb _ _ t.first, le-leb _ _ t.there) refl
 
-  module _ (short : length s ≤ most_file) where
-    pub too_short : length s < 13 → false ≡ well_formed s
-    unfolding well_formed
-    too_short h = simp (le-leb _ _ short, lt-leb _ _ h)
-
-    module _ (enough : 13 ≤ length s) where
-      mark_read : big_endian_or0 s 0 3 ≡ mark s
-      mark_read = number_there s 0 3 (omega arith) (omega arith)
-
-      version_read : big_endian_or0 s 3 2 ≡ version s
-      version_read = number_there s 3 2 (omega arith) (omega arith)
-
-      pub wrong_mark : (big_endian_or0 s 0 3 ≡ 5067590 → ⊥) → false ≡ well_formed s
-      unfolding well_formed
-      wrong_mark h = simp (le-leb _ _ short, le-leb _ _ enough, ← mark_read, ne_eqb _ _ h)
-
-      module _ (marked : big_endian_or0 s 0 3 ≡ 5067590) where
-        pub wrong_version : (big_endian_or0 s 3 2 ≡ 1 → ⊥) → false ≡ well_formed s
-        unfolding well_formed
-        wrong_version h = simp (le-leb _ _ short, le-leb _ _ enough, ← mark_read, ← version_read, eq-eqb _ _ marked, ne_eqb _ _ h)
-
-        -- then the entries decide
-        pub by_entries : big_endian_or0 s 3 2 ≡ 1 → leb (data_at s) (length s) ≡ well_formed s
-        unfolding well_formed
-        by_entries h = simp (le-leb _ _ short, le-leb _ _ enough, ← mark_read, ← version_read, eq-eqb _ _ marked, eq-eqb _ _ h)
-
-  pub data_inside : well_formed s ≡ true → data_at s ≤ length s
+  pub tests : well_formed s ≡ true → Tests s
   unfolding well_formed
-  data_inside h = leb-true _ _ (simp and-eq-true_iff at h).1.1.1.1
+  tests h =
+      let t = simp and-eq-true_iff at h in
+      record { short = leb-true _ _ t.0; enough = leb-true _ _ t.1.0; marked = eqb-true _ _ t.1.1.0; first = eqb-true _ _ t.1.1.1.0; there = leb-true _ _ t.1.1.1.1 }
 
-  -- ---- the listing
-
-  pub ill_formed : well_formed s ≡ false → refused_line (number_of File) ≡ file_listing s
+  -- a file of which a test fails
+  pub ill_formed : (Tests s → ⊥) → refused_line (number_of File) ≡ file_listing s
   unfolding file_listing
-  ill_formed e = rw e
+  ill_formed fails =
+      elim (well_formed s) as (λ b. well_formed s ≡ b → refused_line (number_of File) ≡ file_listing s) [
+        | true ↦ (λ e. absurd (fails (tests e)))
+        | false ↦ (λ e. rw e refl)
+      ] refl
 
-  module _ (e : well_formed s ≡ true) where
-    pub other_type : kind_of (get_or s 5 0) ≡ none → refused_line (number_of File) ≡ file_listing s
-    unfolding file_listing listing_of_kind
-    other_type k = rw (e, k)
+  pub other_type : kind_of (get_or s 5 0) ≡ None → refused_line (number_of File) ≡ file_listing s
+  unfolding file_listing listing_of_kind
+  other_type k =
+      elim (well_formed s) as (λ b. refused_line (number_of File) ≡ cond b (listing_of_kind (kind_of (get_or s 5 0)) s) (refused_line (number_of File))) [
+        | true ↦ rw k refl
+        | false ↦ refl
+      ]
 
-    pub of_kind : {kind : Kind} → kind_of (get_or s 5 0) ≡ some kind → listing kind (components s) (answer_of kind s) ≡ file_listing s
-    unfolding file_listing listing_of_kind
-    of_kind k = rw (e, k)
+  pub of_kind : {kind : Kind} → well_formed s ≡ true → kind_of (get_or s 5 0) ≡ Some kind → listing kind (components s) (answer_of kind s) ≡ file_listing s
+  unfolding file_listing listing_of_kind
+  of_kind e k = rw (e, k) refl

@@ -1,6 +1,5 @@
 -- The file that the dump program reads, and what it prints for it: document 01, "Dump program". s is the file's bytes.
-use Rattle.std.specs.Prelude.{ℕ, ◌+◌, ◌*◌, Bool, ◌&&◌, cond, List, leb, eqb, length, drop, get_or, Float}
-use Rattle.std.proofs.Math.Option.{Option, none, some}
+use Rattle.std.specs.Prelude.{ℕ, ◌+◌, ◌*◌, Option, None, Some, Bool, ◌&&◌, cond, List, leb, eqb, length, drop, get_or, Float}
 use Rattle.answers.specs.declared.Refusal.TheVariants.{File}
 use Rattle.answers.specs.Outcome.{number_of, Outcome}
 use Rattle.decode.specs.Stored.{big_endian, floats_at}
@@ -51,7 +50,7 @@ entries s = floats_at s 13 (entry_count s)
 
 -- the type's kind: 4 to 7
 unfoldable pub kind_of : ℕ → Option Kind
-kind_of t = cond (eqb t 4) (some Four) (cond (eqb t 5) (some Five) (cond (eqb t 6) (some Six) (cond (eqb t 7) (some Seven) none)))
+kind_of t = cond (eqb t 4) (Some Four) (cond (eqb t 5) (Some Five) (cond (eqb t 6) (Some Six) (cond (eqb t 7) (Some Seven) None)))
 
 -- not too long, long enough for the header and the entries, with the mark `MSF` and version 1
 unfoldable pub well_formed : List ℕ → Bool
@@ -64,8 +63,8 @@ answer_of kind s =
 
 -- FILE comes before all others
 unfoldable pub listing_of_kind : Option Kind → List ℕ → List ℕ
-listing_of_kind none s = refused_line (number_of File)
-listing_of_kind (some kind) s = listing kind (components s) (answer_of kind s)
+listing_of_kind None s = refused_line (number_of File)
+listing_of_kind (Some kind) s = listing kind (components s) (answer_of kind s)
 
 unfoldable pub file_listing : List ℕ → List ℕ
 file_listing s = cond (well_formed s) (listing_of_kind (kind_of (get_or s 5 0)) s) (refused_line (number_of File))

@@ -1,1 +1,3 @@
+pub mod Appending
 pub mod Kinds
+pub mod Headers

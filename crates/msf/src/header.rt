@@ -1,55 +1,120 @@
 // The header of the dump program's file: 13 bytes, then Decode's entries. All numbers stand high byte first.
-ghost use Rattle.std.specs.Prelude.{◌≡◌, ◌<◌, length, get_or};
-ghost use Rattle.msf.specs.File.{kind_of, well_formed};
-ghost use Rattle.msf.specs.Inner.Kinds.{kind_named};
+ghost use Rattle.std.specs.Prelude.{◌≡◌, ◌≤◌, length, IfSome, IfNone, IfOk};
+ghost use Rattle.answers.specs.Outcome.{number_of, Done};
+ghost use Rattle.answers.specs.declared.Refusal.TheVariants.{File};
+ghost use Rattle.msf.specs.File.{file_listing};
+ghost use Rattle.msf.specs.Listing.{refused_line};
+ghost use Rattle.meshes.specs.Outcomes.{ported_reader};
+ghost use Rattle.msf.specs.Inner.Kinds.{stride_of, IsListable};
 
-use decode::stored::big_endian;
+use answers::Answer;
+use decode::stored::{big_endian, read_floats};
+use patches::{parse_type6_patches, parse_type7_patches};
 use records::shape::Kind;
+use triangles::{parse_type4_mesh, parse_type5_mesh};
 
-// What a type byte names.
+// What the header says, the bytes of Decode's entries, and the mesh's data.
 #[derive(Clone, Copy)]
-pub enum Named {
-    Mesh(Kind),
-    Nothing,
+pub struct Header<'a> {
+    pub kind: Kind,
+    pub coord: usize,
+    pub comp: usize,
+    pub flag: usize,
+    pub components: usize,
+    pub row: usize,
+    pub entries: &'a [u8],
+    pub data: &'a [u8],
+    ghost few_entries: { length entries.now ≤ 2040 },
 }
 
-// A byte of the file, which is there.
-pub fn byte_at(file: &[u8], at: usize) -> usize
-    requires { at < length file.now }
-    ensures { (result ≡ get_or file.now at 0) × (result < 256) }
-{
-    file[at] as usize
-}
+impl<'a> Header<'a> {
+    ghost use Rattle.msf.specs.Inner.Headers.{Heads, answer_to};
 
-// The type byte's mesh type.
-pub fn kind_of(number: usize) -> Named
-    ensures { kind_named result ≡ kind_of number }
-{
-    match number {
-        4 => Named::Mesh(Kind::Four),
-        5 => Named::Mesh(Kind::Five),
-        6 => Named::Mesh(Kind::Six),
-        7 => Named::Mesh(Kind::Seven),
-        _ => Named::Nothing,
+    // None for a file that is refused with FILE.
+    pub fn read(file: &'a [u8]) -> Option<Header<'a>>
+        ensures found { IfSome result (Heads file.now) }
+        ensures refused { IfNone result (refused_line (number_of File) ≡ file_listing file.now) }
+    {
+        if file.len() > 65536 {
+            return None;
+        }
+        let [
+            _,
+            _,
+            _,
+            _,
+            _,
+            kind,
+            coord,
+            comp,
+            flag,
+            n,
+            _,
+            _,
+            count,
+            rest @ ..,
+        ] = file
+        else {
+            return None;
+        };
+        if big_endian(&file[..3]) != 0x4d5346 || big_endian(&file[3..5]) != 1 {
+            return None; // the mark is `MSF`, the version 1
+        }
+        let kind = Kind::try_from(usize::from(*kind)).ok()?;
+        let (entries, data) = rest.split_at_checked(8 * usize::from(*count))?;
+        Some(Header {
+            kind,
+            coord: usize::from(*coord),
+            comp: usize::from(*comp),
+            flag: usize::from(*flag),
+            components: usize::from(*n),
+            row: big_endian(&file[10..12]) as usize,
+            entries,
+            data,
+        })
     }
-}
 
-// FILE's tests but that of the type: the length, the mark, the version, and that the entries are there.
-pub fn is_well_formed(file: &[u8]) -> bool
-    ensures { result ≡ well_formed file.now }
-{
-    if file.len() > 65536 {
-        return false;
+    // How many numbers a triangle or a patch has.
+    pub fn stride(&self) -> usize
+        requires { self.now.components ≤ 255 }
+        ensures { result ≡ stride_of self.now.kind self.now.components }
+    {
+        let n = self.components;
+        match self.kind {
+            Kind::Four | Kind::Five => 3 * (10 + n),
+            Kind::Six => 2 * 12 + 4 * (8 + n),
+            Kind::Seven => 2 * 16 + 4 * (8 + n),
+        }
     }
-    if file.len() < 13 {
-        return false;
+
+    // Reads the mesh with the ported reader of its type.
+    fn read_decoded(&self, decode: &[f64], numbers: &mut [f64]) -> Answer
+        ensures { let h = self.now in Done (ported_reader h.kind h.«data».now h.coord h.comp h.flag decode.now h.components h.row (length numbers.old)) numbers.old result numbers.new }
+    {
+        let Header {
+            coord,
+            comp,
+            flag,
+            components: n,
+            data,
+            ..
+        } = *self;
+        match self.kind {
+            Kind::Four => parse_type4_mesh(data, coord, comp, flag, decode, n, numbers),
+            Kind::Five => parse_type5_mesh(data, coord, comp, decode, n, self.row, numbers),
+            Kind::Six => parse_type6_patches(data, coord, comp, flag, decode, n, numbers),
+            Kind::Seven => parse_type7_patches(data, coord, comp, flag, decode, n, numbers),
+        }
     }
-    if big_endian(file, 0, 3) != 0x4d5346 {
-        return false; // the mark is `MSF`
+
+    // Reads the mesh.
+    pub fn read_mesh(&self, numbers: &mut [f64]) -> Answer
+        requires { length numbers.old ≡ 8192 }
+        ensures answered { Done (answer_to self.now) numbers.old result numbers.new }
+        ensures listable { IfOk result (IsListable self.now.kind self.now.components) }
+    {
+        let mut entries = [0.0; 255];
+        read_floats(self.entries, &mut entries);
+        self.read_decoded(&entries[..self.entries.len() / 8], numbers)
     }
-    if big_endian(file, 3, 2) != 1 {
-        return false;
-    }
-    let count = byte_at(file, 12);
-    13 + 8 * count <= file.len()
 }

@@ -1,217 +1,166 @@
-// The lines of a listing, written to a lent output from an index where there is room for them. Each function answers the index after what it wrote.
-// A number of the mesh takes at most 17 bytes of its line: 16 digits, and a space or the line's end.
-ghost use Rattle.std.specs.Prelude.{◌≡◌, [], ◌∷◌, ◌++◌, map, ◌+◌, ◌*◌, ◌≤◌, ◌<◌, length};
-ghost use Rattle.std.specs.Float.{nan};
-ghost use Rattle.lists.specs.Lists.{part};
-ghost use Rattle.lists.specs.Writing.{Written};
+// The lines of a listing. A number of the mesh takes at most 17 bytes of its line: 16 digits, and a space or the line's end.
+ghost use Rattle.std.specs.Prelude.{◌≡◌, [], ◌∷◌, ◌++◌, map, ◌+◌, ◌-◌, ◌*◌, ◌/◌, ◌≤◌, ◌<◌, length};
 ghost use Rattle.answers.specs.Outcome.{number_of};
 ghost use Rattle.msf.specs.Text.{float_text, decimal};
 ghost use Rattle.msf.specs.Listing.{line, spaced, ink_words, row_line, point_line, lines, patch_lines, patches_lines, mesh_lines, type_of, refused_line};
-ghost use Rattle.msf.specs.Inner.Kinds.{stride_of};
+ghost use Rattle.msf.specs.Inner.Kinds.{stride_of, IsListable};
+ghost use Rattle.msf.specs.Inner.Appending.{Appends};
 
-use crate::text;
+use crate::header::Header;
+use crate::text::Text;
 use answers::Refusal;
 use records::shape::Kind;
 
-// ---- one line
+impl Text<'_> {
+    // ---- one line
 
-// Numbers, each with a space before it.
-fn put_spaced(numbers: &[f64], from: usize, k: usize, out: &mut [u8], at: usize) -> usize
-    requires { (from + k ≤ length numbers.now) × (at + 17 * k ≤ length out.old) }
-    ensures upper_bound { result ≤ at + 17 * k }
-    ensures written { Written out.old out.new at (spaced (map float_text (part nan numbers.now from k))) result }
-{
-    let mut q = at;
-    let mut i: usize = 0;
-    while i < k {
-        let p = text::put_byte(b' ', out, q);
-        q = text::put_float(numbers[from + i], out, p);
-        i += 1;
+    // Numbers, each with a space before it.
+    fn put_spaced(&mut self, numbers: &[f64])
+        requires room { self.old.at + 17 * length numbers.now ≤ length self.old.out.now }
+        ensures at_most { self.new.at ≤ self.old.at + 17 * length numbers.now }
+        ensures appended { Appends self.old self.new (spaced (map float_text numbers.now)) }
+    {
+        for x in numbers {
+            self.put_byte(b' ');
+            self.put_float(*x);
+        }
     }
-    q
-}
 
-// The mark, numbers after it, and the line's end.
-fn put_marked(
-    mark: usize,
-    numbers: &[f64],
-    from: usize,
-    k: usize,
-    out: &mut [u8],
-    at: usize,
-) -> usize
-    requires { (mark < 10) × (from + k ≤ length numbers.now) × (at + (3 + 17 * k) ≤ length out.old) }
-    ensures upper_bound { result ≤ at + (3 + 17 * k) }
-    ensures written { Written out.old out.new at (spaced (decimal mark ∷ map float_text (part nan numbers.now from k)) ++ (10 ∷ [])) result }
-{
-    let p = text::put_byte(b' ', out, at);
-    let q = text::put_digit(mark, out, p);
-    let end = put_spaced(numbers, from, k, out, q);
-    text::put_byte(b'\n', out, end)
-}
-
-// What follows r, g and b of the colour that begins at an index, and the line's end.
-fn put_inks(numbers: &[f64], n: usize, from: usize, out: &mut [u8], at: usize) -> usize
-    requires { (from + (8 + n) ≤ length numbers.now) × (at + 17 * (5 + n) ≤ length out.old) }
-    ensures upper_bound { result ≤ at + 17 * (5 + n) }
-    ensures written { Written out.old out.new at (spaced (ink_words (part nan numbers.now from (8 + n))) ++ (10 ∷ [])) result }
-{
-    if numbers[from + 3] == 1.0 {
-        return put_marked(1, numbers, from + 4, 4 + n, out, at);
+    // The mark, numbers after it, and the line's end.
+    fn put_marked(&mut self, mark: u32, numbers: &[f64])
+        requires digit { mark < 10 }
+        requires room { self.old.at + (3 + 17 * length numbers.now) ≤ length self.old.out.now }
+        ensures at_most { self.new.at ≤ self.old.at + (3 + 17 * length numbers.now) }
+        ensures appended { Appends self.old self.new (spaced (decimal mark ∷ map float_text numbers.now) ++ (10 ∷ [])) }
+    {
+        self.put_byte(b' ');
+        self.put_digit(mark);
+        self.put_spaced(numbers);
+        self.put_byte(b'\n');
     }
-    put_marked(0, numbers, from + 8, n, out, at)
-}
 
-// A row of so many coordinates and a colour.
-fn put_row(
-    numbers: &[f64],
-    coords: usize,
-    n: usize,
-    from: usize,
-    out: &mut [u8],
-    at: usize,
-) -> usize
-    requires { (from + (coords + (8 + n)) ≤ length numbers.now) × (at + 17 * (coords + (8 + n)) ≤ length out.old) }
-    ensures upper_bound { result ≤ at + 17 * (coords + (8 + n)) }
-    ensures written { Written out.old out.new at (row_line coords (part nan numbers.now from (coords + (8 + n)))) result }
-{
-    let p = text::put_float(numbers[from], out, at);
-    let q = put_spaced(numbers, from + 1, coords + 2, out, p);
-    put_inks(numbers, n, from + coords, out, q)
-}
-
-// ---- the lines of a mesh
-
-fn put_rows(
-    numbers: &[f64],
-    coords: usize,
-    n: usize,
-    from: usize,
-    k: usize,
-    out: &mut [u8],
-    at: usize,
-) -> usize
-    requires { (coords ≤ 2) × (n ≤ 32) × (from + k * (coords + (8 + n)) ≤ length numbers.now) × (at + 17 * (k * (coords + (8 + n))) ≤ length out.old) }
-    ensures upper_bound { result ≤ at + 17 * (k * (coords + (8 + n))) }
-    ensures written { Written out.old out.new at (lines (row_line coords) (coords + (8 + n)) numbers.now from k) result }
-{
-    let size = coords + (8 + n);
-    let mut p = from;
-    let mut q = at;
-    let mut i: usize = 0;
-    while i < k {
-        q = put_row(numbers, coords, n, p, out, q);
-        p += size;
-        i += 1;
+    // What follows r, g and b of a colour, and the line's end.
+    fn put_inks(&mut self, colour: &[f64])
+        requires whole { 8 ≤ length colour.now }
+        requires room { self.old.at + 17 * (length colour.now - 3) ≤ length self.old.out.now }
+        ensures at_most { self.new.at ≤ self.old.at + 17 * (length colour.now - 3) }
+        ensures appended { Appends self.old self.new (spaced (ink_words colour.now) ++ (10 ∷ [])) }
+    {
+        if colour[3] == 1.0 {
+            return self.put_marked(1, &colour[4..]);
+        }
+        self.put_marked(0, &colour[8..]);
     }
-    q
-}
 
-// Points, a line of x and y for each.
-fn put_points(numbers: &[f64], from: usize, k: usize, out: &mut [u8], at: usize) -> usize
-    requires { (from + 2 * k ≤ length numbers.now) × (at + 34 * k ≤ length out.old) }
-    ensures upper_bound { result ≤ at + 34 * k }
-    ensures written { Written out.old out.new at (lines point_line 2 numbers.now from k) result }
-{
-    let mut p = from;
-    let mut q = at;
-    let mut i: usize = 0;
-    while i < k {
-        let x_end = text::put_float(numbers[p], out, q);
-        let y_end = put_spaced(numbers, p + 1, 1, out, x_end);
-        q = text::put_byte(b'\n', out, y_end);
-        p += 2;
-        i += 1;
+    // A row of so many coordinates and a colour.
+    fn put_row(&mut self, coords: usize, row: &[f64])
+        requires whole { coords + 8 ≤ length row.now }
+        requires room { self.old.at + 17 * length row.now ≤ length self.old.out.now }
+        ensures at_most { self.new.at ≤ self.old.at + 17 * length row.now }
+        ensures appended { Appends self.old self.new (row_line coords row.now) }
+    {
+        self.put_float(row[0]);
+        self.put_spaced(&row[1..coords + 3]);
+        self.put_inks(&row[coords..]);
     }
-    q
-}
 
-// The points of a patch, then its four colours.
-fn put_patch(
-    numbers: &[f64],
-    points: usize,
-    n: usize,
-    from: usize,
-    out: &mut [u8],
-    at: usize,
-) -> usize
-    requires { (points ≤ 16) × (n ≤ 32) × (from + (2 * points + 4 * (8 + n)) ≤ length numbers.now) × (at + 17 * (2 * points + 4 * (8 + n)) ≤ length out.old) }
-    ensures upper_bound { result ≤ at + 17 * (2 * points + 4 * (8 + n)) }
-    ensures written { Written out.old out.new at (patch_lines points n numbers.now from) result }
-{
-    let p = put_points(numbers, from, points, out, at);
-    put_rows(numbers, 0, n, from + 2 * points, 4, out, p)
-}
-
-fn put_patches(
-    numbers: &[f64],
-    points: usize,
-    n: usize,
-    count: usize,
-    out: &mut [u8],
-    at: usize,
-) -> usize
-    requires { (points ≤ 16) × (n ≤ 32) × (count * (2 * points + 4 * (8 + n)) ≤ length numbers.now) × (at + 17 * (count * (2 * points + 4 * (8 + n))) ≤ length out.old) }
-    ensures { Written out.old out.new at (patches_lines points n numbers.now count) result }
-{
-    let size = 2 * points + 4 * (8 + n);
-    let mut p: usize = 0;
-    let mut q = at;
-    let mut i: usize = 0;
-    while i < count {
-        q = put_patch(numbers, points, n, p, out, q);
-        p += size;
-        i += 1;
+    // x and y.
+    fn put_point(&mut self, point: &[f64])
+        requires whole { length point.now ≡ 2 }
+        requires room { self.old.at + 34 ≤ length self.old.out.now }
+        ensures at_most { self.new.at ≤ self.old.at + 34 }
+        ensures appended { Appends self.old self.new (point_line point.now) }
+    {
+        self.put_float(point[0]);
+        self.put_spaced(&point[1..]);
+        self.put_byte(b'\n');
     }
-    q
-}
 
-// ---- a listing
+    // ---- the lines of a mesh
 
-fn type_of(kind: Kind) -> usize
-    ensures { (result < 10) × (result ≡ type_of kind) }
-{
-    match kind {
-        Kind::Four => 4,
-        Kind::Five => 5,
-        Kind::Six => 6,
-        Kind::Seven => 7,
+    fn put_rows(&mut self, coords: usize, size: usize, rows: &[f64])
+        requires whole { coords + 8 ≤ size }
+        requires room { self.old.at + 17 * length rows.now ≤ length self.old.out.now }
+        ensures at_most { self.new.at ≤ self.old.at + 17 * length rows.now }
+        ensures appended { Appends self.old self.new (lines (row_line coords) size rows.now 0 (length rows.now / size)) }
+    {
+        for row in rows.chunks_exact(size) {
+            self.put_row(coords, row);
+        }
     }
-}
 
-// The type and the count.
-fn put_head(kind: Kind, count: usize, out: &mut [u8]) -> usize
-    requires { (count < 1000) × (6 ≤ length out.old) }
-    ensures upper_bound { result ≤ 6 }
-    ensures written { Written out.old out.new 0 (line (decimal (type_of kind) ∷ decimal count ∷ [])) result }
-{
-    let p = text::put_digit(type_of(kind), out, 0);
-    let q = text::put_byte(b' ', out, p);
-    let end = text::put_decimal(count, out, q);
-    text::put_byte(b'\n', out, end)
-}
-
-// The whole listing of a mesh: so many triangles or patches, whose numbers are a reader's.
-pub fn put_listing(kind: Kind, n: usize, numbers: &[f64], count: usize, out: &mut [u8]) -> usize
-    requires { (n ≤ 32) × (count < 1000) × (count * stride_of kind n ≤ length numbers.now) × (6 + 17 * (count * stride_of kind n) ≤ length out.old) }
-    ensures { Written out.old out.new 0 (line (decimal (type_of kind) ∷ decimal count ∷ []) ++ mesh_lines kind n numbers.now count) result }
-{
-    let p = put_head(kind, count, out);
-    match kind {
-        Kind::Four => put_rows(numbers, 2, n, 0, 3 * count, out, p),
-        Kind::Five => put_rows(numbers, 2, n, 0, 3 * count, out, p),
-        Kind::Six => put_patches(numbers, 12, n, count, out, p),
-        Kind::Seven => put_patches(numbers, 16, n, count, out, p),
+    fn put_points(&mut self, points: &[f64])
+        requires room { self.old.at + 17 * length points.now ≤ length self.old.out.now }
+        ensures at_most { self.new.at ≤ self.old.at + 17 * length points.now }
+        ensures appended { Appends self.old self.new (lines point_line 2 points.now 0 (length points.now / 2)) }
+    {
+        for point in points.chunks_exact(2) {
+            self.put_point(point);
+        }
     }
-}
 
-// The whole listing of a refusal.
-pub fn put_refused(refusal: Refusal, out: &mut [u8]) -> usize
-    requires { 12 ≤ length out.old }
-    ensures { Written out.old out.new 0 (refused_line (number_of refusal)) result }
-{
-    let number = answers::refusal_number(refusal);
-    let p = text::put_bytes(b"refused ", out, 0);
-    let end = text::put_decimal(number, out, p);
-    text::put_byte(b'\n', out, end)
+    // The points of a patch, then its four colours.
+    fn put_patch(&mut self, points: usize, n: usize, patch: &[f64])
+        requires whole { length patch.now ≡ 2 * points + 4 * (8 + n) }
+        requires room { self.old.at + 17 * length patch.now ≤ length self.old.out.now }
+        ensures at_most { self.new.at ≤ self.old.at + 17 * length patch.now }
+        ensures appended { Appends self.old self.new (patch_lines points n patch.now 0) }
+    {
+        let (front, colours) = patch.split_at(2 * points);
+        self.put_points(front);
+        self.put_rows(0, 8 + n, colours);
+    }
+
+    fn put_patches(&mut self, points: usize, n: usize, patches: &[f64])
+        requires few_points { points ≤ 16 }
+        requires few { n ≤ 32 }
+        requires room { self.old.at + 17 * length patches.now ≤ length self.old.out.now }
+        ensures { Appends self.old self.new (patches_lines points n patches.now (length patches.now / (2 * points + 4 * (8 + n)))) }
+    {
+        let size = 2 * points + 4 * (8 + n);
+        for patch in patches.chunks_exact(size) {
+            self.put_patch(points, n, patch);
+        }
+    }
+
+    // ---- a listing
+
+    // The type and the count.
+    fn put_head(&mut self, kind: Kind, count: usize)
+        requires low { count < 1000 }
+        requires room { self.old.at + 6 ≤ length self.old.out.now }
+        ensures at_most { self.new.at ≤ self.old.at + 6 }
+        ensures appended { Appends self.old self.new (line (decimal (type_of kind) ∷ decimal count ∷ [])) }
+    {
+        self.put_digit(kind as u32);
+        self.put_byte(b' ');
+        self.put_decimal(count as u32);
+        self.put_byte(b'\n');
+    }
+
+    // The whole listing of a mesh: so many triangles or patches, whose numbers are a reader's.
+    pub fn put_listing(&mut self, header: &Header, count: usize, numbers: &[f64])
+        requires listable { IsListable header.now.kind header.now.components count }
+        requires whole { length numbers.now ≡ count * stride_of header.now.kind header.now.components }
+        requires room { self.old.at + (6 + 17 * length numbers.now) ≤ length self.old.out.now }
+        ensures { let h = header.now in Appends self.old self.new (line (decimal (type_of h.kind) ∷ decimal count ∷ []) ++ mesh_lines h.kind h.components numbers.now count) }
+    {
+        self.put_head(header.kind, count);
+        let n = header.components;
+        match header.kind {
+            Kind::Four | Kind::Five => self.put_rows(2, 10 + n, numbers),
+            Kind::Six => self.put_patches(12, n, numbers),
+            Kind::Seven => self.put_patches(16, n, numbers),
+        }
+    }
+
+    // The whole listing of a refusal.
+    pub fn put_refused(&mut self, refusal: Refusal)
+        requires room { self.old.at + 12 ≤ length self.old.out.now }
+        ensures { Appends self.old self.new (refused_line (number_of refusal)) }
+    {
+        self.put_bytes(b"refused ");
+        self.put_decimal(refusal.number() as u32);
+        self.put_byte(b'\n');
+    }
 }

@@ -1,82 +1,74 @@
-// Numbers as text, written to a lent output from an index where there is room for it. Each function answers the index after what it wrote.
+// A text that is written to a lent output, where there is room for it.
 ghost use Rattle.std.specs.Prelude.{◌≡◌, [], ◌∷◌, ◌+◌, ◌≤◌, ◌<◌, length};
-ghost use Rattle.lists.specs.Writing.{Written};
-ghost use Rattle.msf.specs.Text as text;
+ghost use Rattle.msf.specs.Text.{glyph, decimal, float_text};
+ghost use Rattle.msf.specs.Inner.Appending.{Appends};
 
-// The byte of a digit, in any base up to 16.
-fn glyph(digit: usize) -> u8
-    requires { digit < 16 }
-    ensures { result ≡ text.glyph digit }
-{
-    if digit < 10 {
-        return (48 + digit) as u8;
-    }
-    (87 + digit) as u8
+// The bytes before index at have been written.
+#[derive(Drop)]
+pub struct Text<'a> {
+    pub out: &'a mut [u8],
+    pub at: usize,
 }
 
-pub fn put_byte(byte: u8, out: &mut [u8], at: usize) -> usize
-    requires { at + 1 ≤ length out.old }
-    ensures value { result ≡ at + 1 }
-    ensures written { Written out.old out.new at (byte ∷ []) result }
-{
-    out[at] = byte;
-    at + 1
-}
+impl<'a> Text<'a> {
+    pub fn new(out: &'a mut [u8]) -> Text<'a>
+        ensures same_output { result.out.ghost_name ≡ out.entry.ghost_name }
+        ensures same_bytes { result.out.now ≡ out.old }
+        ensures start { result.at ≡ 0 }
+    {
+        Text { out, at: 0 }
+    }
 
-pub fn put_bytes(bytes: &[u8], out: &mut [u8], at: usize) -> usize
-    requires { at + length bytes.now ≤ length out.old }
-    ensures value { result ≡ at + length bytes.now }
-    ensures written { Written out.old out.new at bytes.now result }
-{
-    let mut j: usize = 0;
-    while j < bytes.len() {
-        out[at + j] = bytes[j];
-        j += 1;
+    pub fn put_byte(&mut self, byte: u8)
+        requires room { self.old.at + 1 ≤ length self.old.out.now }
+        ensures { Appends self.old self.new (byte ∷ []) }
+    {
+        self.out[self.at] = byte;
+        self.at += 1;
     }
-    at + j
-}
 
-pub fn put_digit(digit: usize, out: &mut [u8], at: usize) -> usize
-    requires { (digit < 10) × (at + 1 ≤ length out.old) }
-    ensures value { result ≡ at + 1 }
-    ensures written { Written out.old out.new at (text.glyph digit ∷ []) result }
-{
-    put_byte(glyph(digit), out, at)
-}
+    pub fn put_bytes(&mut self, bytes: &[u8])
+        requires room { self.old.at + length bytes.now ≤ length self.old.out.now }
+        ensures { Appends self.old self.new bytes.now }
+    {
+        let end = self.at + bytes.len();
+        self.out[self.at..end].copy_from_slice(bytes);
+        self.at = end;
+    }
 
-// The 16 digits of a float's bits in base 16, the lowest stored first. A NaN's bits are not asked for: only a NaN differs from itself.
-pub fn put_float(x: f64, out: &mut [u8], at: usize) -> usize
-    requires { at + 16 ≤ length out.old }
-    ensures upper_bound { result ≤ at + 16 }
-    ensures written { Written out.old out.new at (text.float_text x) result }
-{
-    if x != x {
-        return put_bytes(b"nan", out, at);
+    // A digit in any base up to 16.
+    pub fn put_digit(&mut self, digit: u32)
+        requires in_base { digit < 16 }
+        requires room { self.old.at + 1 ≤ length self.old.out.now }
+        ensures { Appends self.old self.new (glyph digit ∷ []) }
+    {
+        self.put_byte(char::from_digit(digit, 16).unwrap() as u8);
     }
-    let mut rest = f64::to_bits(x) as usize;
-    let mut k: usize = 16;
-    while 0 < k {
-        k -= 1;
-        out[at + k] = glyph(rest % 16);
-        rest = rest / 16;
-    }
-    at + 16
-}
 
-pub fn put_decimal(v: usize, out: &mut [u8], at: usize) -> usize
-    requires { (v < 1000) × (at + 3 ≤ length out.old) }
-    ensures upper_bound { result ≤ at + 3 }
-    ensures written { Written out.old out.new at (text.decimal v) result }
-{
-    if v < 10 {
-        return put_digit(v, out, at);
+    // The 16 digits of a float's bits in base 16; a NaN's bits are not asked for.
+    pub fn put_float(&mut self, x: f64)
+        requires room { self.old.at + 16 ≤ length self.old.out.now }
+        ensures at_most { self.new.at ≤ self.old.at + 16 }
+        ensures appended { Appends self.old self.new (float_text x) }
+    {
+        if x.is_nan() {
+            return self.put_bytes(b"nan");
+        }
+        let bits = x.to_bits();
+        for k in (0..16u32).rev() {
+            self.put_digit(((bits >> (4 * k)) % 16) as u32);
+        }
     }
-    let tens = v / 10;
-    if v < 100 {
-        let p = put_digit(tens, out, at);
-        return put_digit(v % 10, out, p);
+
+    // A number in base 10.
+    pub fn put_decimal(&mut self, v: u32)
+        requires room { self.old.at + length (decimal v) ≤ length self.old.out.now }
+        ensures { Appends self.old self.new (decimal v) }
+    {
+        if v < 10 {
+            return self.put_digit(v);
+        }
+        self.put_decimal(v / 10);
+        self.put_digit(v % 10);
     }
-    let p = put_digit(tens / 10, out, at);
-    let q = put_digit(tens % 10, out, p);
-    put_digit(v % 10, out, q)
 }
