@@ -3,108 +3,84 @@
 // a triangle's three vertices in Type 4, a patch in Type 7. All widths are 8 bits.
 #![tactic(auto)]
 
-ghost use Rattle.std.specs.Prelude.{◌≤◌};
+ghost use Rattle.std.specs.Prelude.{◌<◌, length};
 
-use answers::Told;
+use answers::Answer;
+use std::io;
 
-const STDOUT: i32 = 1;
-
-fn print_number(text: &[u8], number: usize) {
-    io::write_all(STDOUT, text);
-    io::print_decimal(STDOUT, number as u64);
-}
-
-fn print_line(name: &[u8], n: usize, room: usize, told: Told) {
-    io::write_all(STDOUT, name);
-    print_number(b": ", n);
-    print_number(b" components, room for ", room);
-    if told.refused == 0 {
-        print_number(b": wrote ", told.count);
-    } else {
-        print_number(b": refused ", told.refused);
-        print_number(b", count ", told.count);
+// Makes a call with so many components and prints what it answers.
+fn print_call<T, F: Fn(usize, &mut [T]) -> Answer>(
+    rt: &impl Print,
+    name: &str,
+    n: usize,
+    out: &mut [T],
+    call: F,
+) -> io::Result<()>
+    requires { F.IsAlwaysCallable call }
+{
+    let room = out.len();
+    print!(rt; "{name}: {n} components, room for {room}: ")?;
+    match call(n, out) {
+        Ok(count) => println!(rt; "wrote {count}"),
+        Err(refusal) => println!(rt;
+            "refused {}, count {}",
+            refusal.number(),
+            refusal.places_needed()
+        ),
     }
-    io::write_all(STDOUT, b"\n");
 }
 
-// Three vertices have 3 * (3 + n) numbers; with 33 components that is 108.
-
-fn parse4(n: usize, room: usize)
-    requires { room ≤ 126 }
+// The three calls of a function, whose output has room for exactly what 32 components need.
+fn print_calls<T, F: Fn(usize, &mut [T]) -> Answer>(
+    rt: &impl Print,
+    name: &str,
+    out: &mut [T],
+    call: F,
+) -> io::Result<()>
+    requires callable { F.IsAlwaysCallable call }
+    requires room { 0 < length out.old }
 {
-    let data = [0u8; 108];
+    let room = out.len();
+    print_call(rt, name, 32, out, &call)?;
+    print_call(rt, name, 33, out, &call)?;
+    print_call(rt, name, 32, &mut out[..room - 1], &call)
+}
+
+fn main(rt: HostRuntime) -> io::Result<()> {
     let decode = [0.0, 1.0, 0.0, 1.0];
-    let mut out = [0.0f64; 126];
-    let answer = triangles::parse_type4_mesh(&data, 8, 8, 8, &decode, n, &mut out[0..room]);
-    print_line(b"parse_type4_mesh", n, room, answers::tell(answer));
-}
 
-fn build4(n: usize, room: usize)
-    requires { room ≤ 126 }
-{
+    // Three vertices have 3 * (3 + n) numbers; with 33 components that is 108.
+    let data = [0u8; 108];
     let values = [0.0f64; 108];
-    let mut out = [0.0f64; 126];
-    let answer = triangles::build_type4_from_array(&values, n, &mut out[0..room]);
-    print_line(b"build_type4_from_array", n, room, answers::tell(answer));
-}
+    print_calls(&rt, "parse_type4_mesh", &mut [0.0f64; 126], |n, out| {
+        triangles::parse_type4_mesh(&data, 8, 8, 8, &decode, n, out)
+    })?;
+    print_calls(
+        &rt,
+        "build_type4_from_array",
+        &mut [0.0f64; 126],
+        |n, out| { triangles::build_type4_from_array(&values, n, out) },
+    )?;
+    print_calls(&rt, "raw_read_type4", &mut [0u32; 105], |n, out| {
+        records::raw::raw_read_type4(&data, 8, 8, 8, n, out)
+    })?;
 
-fn raw_read4(n: usize, room: usize)
-    requires { room ≤ 105 }
-{
-    let data = [0u8; 108];
-    let mut out = [0u32; 105];
-    let answer = records::raw::raw_read_type4(&data, 8, 8, 8, n, &mut out[0..room]);
-    print_line(b"raw_read_type4", n, room, answers::tell(answer));
-}
-
-// A writer takes whole records only, so it is lent the numbers of three vertices with 32 components.
-fn raw_write4(n: usize, room: usize)
-    requires { room ≤ 105 }
-{
+    // A writer takes whole records only, so it is lent the numbers of three vertices with 32 components.
     let numbers = [0u32; 105];
-    let mut out = [0u8; 105];
-    let answer = packing::raw_write_type4(&numbers, 8, 8, 8, n, &mut out[0..room]);
-    print_line(b"raw_write_type4", n, room, answers::tell(answer));
-}
+    print_calls(&rt, "raw_write_type4", &mut [0u8; 105], |n, out| {
+        packing::raw_write_type4(&numbers, 8, 8, 8, n, out)
+    })?;
 
-// A patch of Type 7 has 33 + 4 * n numbers; with 33 components that is 165.
-
-fn parse7(n: usize, room: usize)
-    requires { room ≤ 192 }
-{
+    // A patch of Type 7 has 33 + 4 * n numbers; with 33 components that is 165.
     let data = [0u8; 165];
-    let decode = [0.0, 1.0, 0.0, 1.0];
-    let mut out = [0.0f64; 192];
-    let answer = patches::parse_type7_patches(&data, 8, 8, 8, &decode, n, &mut out[0..room]);
-    print_line(b"parse_type7_patches", n, room, answers::tell(answer));
-}
-
-fn build7(n: usize, room: usize)
-    requires { room ≤ 192 }
-{
     let values = [0.0f64; 165];
-    let mut out = [0.0f64; 192];
-    let answer = patches::build_type7_from_array(&values, n, &mut out[0..room]);
-    print_line(b"build_type7_from_array", n, room, answers::tell(answer));
-}
-
-fn main() {
-    parse4(32, 126);
-    parse4(33, 126);
-    parse4(32, 125);
-    build4(32, 126);
-    build4(33, 126);
-    build4(32, 125);
-    raw_read4(32, 105);
-    raw_read4(33, 105);
-    raw_read4(32, 104);
-    raw_write4(32, 105);
-    raw_write4(33, 105);
-    raw_write4(32, 104);
-    parse7(32, 192);
-    parse7(33, 192);
-    parse7(32, 191);
-    build7(32, 192);
-    build7(33, 192);
-    build7(32, 191);
+    print_calls(&rt, "parse_type7_patches", &mut [0.0f64; 192], |n, out| {
+        patches::parse_type7_patches(&data, 8, 8, 8, &decode, n, out)
+    })?;
+    print_calls(
+        &rt,
+        "build_type7_from_array",
+        &mut [0.0f64; 192],
+        |n, out| { patches::build_type7_from_array(&values, n, out) },
+    )
 }
