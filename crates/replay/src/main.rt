@@ -23,17 +23,15 @@
 ghost use Rattle.std.specs.Prelude.{◌≡◌, ◌≤◌, length};
 ghost use Rattle.replay.specs.Tallies.{tally};
 
-use crate::replaying::{Replayed, Seen};
-use decode::stored::big_endian;
-use std::env;
+use crate::replaying::Replayed;
 use std::fs::File;
 use std::io::Read;
+use std::rt::Files;
+use std::{env, io};
 
 mod calls;
 mod digests;
 mod replaying;
-
-const STDOUT: i32 = 1;
 
 // The cases of a file that agree and that disagree.
 #[derive(Clone, Copy)]
@@ -42,105 +40,67 @@ struct Tally {
     disagree: u64,
 }
 
-fn print(text: &[u8]) {
-    io::write_all(STDOUT, text);
-}
-
-fn print_number(text: &[u8], number: u64) {
-    print(text);
-    io::print_decimal(STDOUT, number);
-}
-
-fn print_unreadable(name: &[u8], number: u64) {
-    print(name);
-    print_number(b": case ", number);
-    print(b" can't be read\n");
-}
-
-fn print_seen(name: &[u8], number: u64, function: u64, seen: Seen) {
-    print(name);
-    print_number(b": case ", number);
-    print_number(b", function ", function);
-    print_number(b", answers refused ", seen.refused as u64);
-    print_number(b", count ", seen.count as u64);
-    print(b", sums ");
-    io::print_hex(STDOUT, seen.first, 16);
-    print(b" ");
-    io::print_hex(STDOUT, seen.second, 16);
-    print(b"\n");
-}
-
-// Replays the cases of a file one by one, and prints those that disagree.
-fn replay_file(name: &[u8], file: &[u8]) -> Tally
+// Replays the cases of a file one by one, and prints those that disagree. A line that can't be printed is let go: the tally holds all the same.
+fn replay_file(rt: &impl Print, name: &str, file: &[u8]) -> Tally
     ensures { result ≡ tally file.now }
 {
-    let mut agree: u64 = 0;
-    let mut disagree: u64 = 0;
-    let mut at: usize = 0;
-    while at < file.len() {
-        let number = agree + disagree + 1;
-        match replaying::replay(file, at) {
-            Replayed::Agrees(next) => {
-                agree += 1;
-                at = next;
-            }
-            Replayed::Differs(seen, next) => {
-                print_seen(name, number, big_endian(file, at, 1), seen);
+    let mut agree = 0;
+    let mut disagree = 0;
+    let mut rest = file;
+    while !rest.is_empty() {
+        let case = agree + disagree + 1;
+        let function = rest[0];
+        let Some(Replayed { size, wrong }) = replaying::replay(rest) else {
+            let _ = println!(rt; "{name}: case {case} can't be read");
+            return Tally {
+                agree,
+                disagree: disagree + 1,
+            };
+        };
+        rest = &rest[size..];
+        match wrong {
+            None => agree += 1,
+            Some(seen) => {
+                let _ = println!(rt; "{name}: case {case}, function {function}, answers {seen}");
                 disagree += 1;
-                at = next;
-            }
-            Replayed::Unreadable => {
-                print_unreadable(name, number);
-                disagree += 1;
-                at = file.len();
             }
         }
     }
     Tally { agree, disagree }
 }
 
-// Reads until the buffer is full, the input ends or a read fails, and answers how many bytes came.
+// Reads until the buffer is full, the input ends or a read fails, and answers how many bytes came. Of std's reads `read` gives a part of them alone,
+// and `read_exact` doesn't say how many came before the end.
 fn read_full(reader: &mut impl Read, buffer: &mut [u8]) -> usize
     ensures { result ≤ length buffer.new }
 {
-    let mut done: usize = 0;
+    let mut done = 0;
     while done < buffer.len() {
-        let Ok(n) = reader.read(&mut buffer[done..]) else {
-            break;
-        };
-        if n == 0 {
-            break;
+        match reader.read(&mut buffer[done..]) {
+            Ok(0) | Err(_) => break,
+            Ok(n) => done += n,
         }
-        done += n;
     }
     done
 }
 
 // Replays the file that an argument names, and prints its tally.
-fn replay_argument(rt: &HostRuntime, name: &str) {
-    let text = name.as_bytes();
+fn replay_argument(rt: &(impl Files + Print), name: &str) -> io::Result<()> {
     let Ok(mut reader) = File::open(rt, name) else {
-        print(text);
-        print(b": can't be opened\n");
-        return;
+        return println!(rt; "{name}: can't be opened");
     };
     let mut file = [0u8; 65536];
     let n = read_full(&mut reader, &mut file);
-    if n == 65536 {
-        print(text);
-        print(b": too long\n");
-        return;
+    if n == file.len() {
+        return println!(rt; "{name}: too long");
     }
-    let tally = replay_file(text, &file[..n]);
-    print(text);
-    print_number(b": ", tally.agree);
-    print_number(b" agree, ", tally.disagree);
-    print(b" disagree\n");
+    let Tally { agree, disagree } = replay_file(rt, name, &file[..n]);
+    println!(rt; "{name}: {agree} agree, {disagree} disagree")
 }
 
-fn main(rt: HostRuntime) -> std::io::Result<()> {
+fn main(rt: HostRuntime) -> io::Result<()> {
     for name in env::args(&rt)?.skip(1) {
-        replay_argument(&rt, name.as_str());
+        replay_argument(&rt, name.as_str())?;
     }
     Ok(())
 }

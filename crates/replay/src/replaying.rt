@@ -1,182 +1,149 @@
 // One stored case, replayed.
-ghost use Rattle.std.specs.Prelude.{◌≡◌, ◌+◌, ◌*◌, ◌^◌, ◌<◌, ◌≤◌, length};
-ghost use Rattle.decode.specs.Stored.{big_endian};
+ghost use Rattle.std.specs.Prelude.{◌≡◌, ◌<◌, ◌≤◌, length, IfSome};
 ghost use Rattle.replay.specs.Calls.{outcome};
-ghost use Rattle.replay.specs.Cases.{call_at, stored_at, bytes_of, is_known, input_place, end_place, is_whole, seen_of, seen_at, is_same, replayed};
-ghost use Rattle.replay.specs.Inner.Walk.{CaseThere, Moves};
+ghost use Rattle.replay.specs.Cases.{case_of, seen_of, seen_at, replayed};
+ghost use Rattle.replay.specs.Inner.Walk.{Fits};
 
-use crate::calls::{Call, Function};
+use crate::calls::Call;
+use crate::digests::Sums;
 use crate::{calls, digests};
+use answers::Told;
 use decode::stored::{big_endian, read_floats};
+use std::fmt;
+
+// How many bytes of a case stand before its Decode entries.
+const HEADER: usize = 31;
+
+// The most Decode entries, numbers of an input or bytes of it, and numbers of the lent output.
+const MOST_ENTRIES: usize = 256;
+
+const MOST_INPUT: usize = 1024;
+
+const MOST_ROOM: usize = 4096;
 
 // What a call has answered, and the sums of the lent output after it.
-#[derive(Clone, Copy)]
+#[derive(Clone, Copy, Debug, PartialEq, Eq)]
 pub struct Seen {
-    pub refused: usize,
-    pub count: usize,
-    pub first: u64,
-    pub second: u64,
+    pub told: Told,
+    pub sums: Sums,
 }
 
-// The case agrees; or it doesn't, with what was seen; both with the index after it. Or no case can be read.
+impl fmt::Display for Seen {
+    fn fmt<W: fmt::Write>(&self, f: &mut fmt::Formatter<W>) -> fmt::Result {
+        let Told { refused, count } = self.told;
+        let Sums { first, second } = self.sums;
+        write!(
+            f,
+            "refused {refused}, count {count}, sums {first:016x} {second:016x}"
+        )
+    }
+}
+
+// A stored case: the call, the indices of its input and of what follows the case, how many numbers the output has, and the answer that is stored.
 #[derive(Clone, Copy)]
-pub enum Replayed {
-    Agrees(usize),
-    Differs(Seen, usize),
-    Unreadable,
+pub struct Case {
+    pub call: Call,
+    pub input: usize,
+    pub end: usize,
+    pub room: usize,
+    pub stored: Seen,
 }
 
-// A number of so many bytes, which are there.
-fn size(file: &[u8], at: usize, k: usize) -> usize
-    requires { (at + k ≤ length file.now) × (k ≤ 8) }
-    ensures { (result ≡ big_endian file.now at k) × (result < 256 ^ k) }
-{
-    big_endian(file, at, k) as usize
-}
-
-// How many bytes an input takes.
-fn byte_count(function: Function, size: usize) -> usize
-    requires { size < 65536 }
-    ensures { (result ≡ bytes_of function size) × (result ≤ 8 * size) }
-{
-    match function {
-        Function::Reader(_) => size,
-        Function::Builder(_) => 8 * size,
-        Function::Unknown => 0,
-    }
-}
-
-fn is_known(function: Function) -> bool
-    ensures { result ≡ is_known function }
-{
-    match function {
-        Function::Reader(_) => true,
-        Function::Builder(_) => true,
-        Function::Unknown => false,
-    }
-}
-
-fn call_at(file: &[u8], at: usize) -> Call
-    requires { at + 31 ≤ length file.now }
-    ensures { result ≡ call_at file.now at }
-{
-    Call {
-        function: calls::function_of(size(file, at, 1)),
-        coord: size(file, at + 1, 1),
-        comp: size(file, at + 2, 1),
-        flag: size(file, at + 3, 1),
-        n: size(file, at + 4, 1),
-        row: size(file, at + 5, 2),
-    }
-}
-
-fn stored_at(file: &[u8], at: usize) -> Seen
-    requires { at + 31 ≤ length file.now }
-    ensures { result ≡ stored_at file.now at }
-{
-    Seen {
-        refused: size(file, at + 12, 1),
-        count: size(file, at + 13, 2),
-        first: size(file, at + 15, 8) as u64,
-        second: size(file, at + 23, 8) as u64,
-    }
-}
-
-fn input_place(file: &[u8], at: usize) -> usize
-    requires { at + 31 ≤ length file.now }
-    ensures { (result ≡ input_place file.now at) × (result < at + 2079) }
-{
-    at + 31 + 8 * size(file, at + 7, 1)
-}
-
-fn end_place(file: &[u8], at: usize) -> usize
-    requires { at + 31 ≤ length file.now }
-    ensures { result ≡ end_place file.now at }
-{
-    let function = call_at(file, at).function;
-    input_place(file, at) + byte_count(function, size(file, at + 8, 2))
-}
-
-fn is_whole(file: &[u8], at: usize) -> bool
-    ensures { result ≡ is_whole file.now at }
-{
-    if file.len() < 31 {
-        return false;
-    }
-    if file.len() - 31 < at {
-        return false;
-    }
-    let function = call_at(file, at).function;
-    if !is_known(function) {
-        return false;
-    }
-    if size(file, at + 8, 2) > 1024 {
-        return false;
-    }
-    if size(file, at + 10, 2) > 4096 {
-        return false;
-    }
-    end_place(file, at) <= file.len()
+// What replaying a case comes to: how many bytes the case takes, and what was seen where it isn't what is stored.
+#[derive(Clone, Copy)]
+pub struct Replayed {
+    pub size: usize,
+    pub wrong: Option<Seen>,
 }
 
 // Makes a call and sums up the output.
 fn seen_of(call: Call, data: &[u8], decode: &[f64], values: &[f64], out: &mut [f64]) -> Seen
     ensures { result ≡ seen_of (outcome call «data».now decode.now values.now (length out.old)) out.old }
 {
-    let told = answers::tell(calls::answer(call, data, decode, values, out));
-    let sums = digests::sum_up(out);
+    let told = Told::from(call.answer(data, decode, values, out));
     Seen {
-        refused: told.refused,
-        count: told.count,
-        first: sums.first,
-        second: sums.second,
+        told,
+        sums: digests::sum_up(out),
     }
 }
 
-// Makes the call of a whole case, on its own numbers.
-fn seen_at(file: &[u8], at: usize) -> Seen
-    requires { CaseThere file.now at }
-    ensures { result ≡ seen_at file.now at }
-{
-    let call = call_at(file, at);
-    let entries = size(file, at + 7, 1);
-    let room = size(file, at + 10, 2);
-    let first = at + 31;
-    let second = input_place(file, at);
-    let end = end_place(file, at);
-    let numbers = (end - second) / 8;
-    let mut decode = [0.0f64; 256];
-    read_floats(file, first, entries, &mut decode);
-    let mut values = [0.0f64; 1024];
-    read_floats(file, second, numbers, &mut values);
-    let mut out = [-7.25f64; 4096];
-    seen_of(
-        call,
-        &file[second..end],
-        &decode[0..entries],
-        &values[0..numbers],
-        &mut out[0..room],
-    )
+impl Case {
+    // The case that the bytes begin with: whole, of a known function, and within the limits.
+    fn read(file: &[u8]) -> Option<Case>
+        ensures value { result ≡ case_of file.now }
+        ensures fits { IfSome result (Fits (length file.now)) }
+    {
+        if file.len() < HEADER {
+            return None;
+        }
+        let function = calls::function_of(file[0] as usize)?;
+        let size = big_endian(&file[8..10]) as usize;
+        let room = big_endian(&file[10..12]) as usize;
+        if size > MOST_INPUT || room > MOST_ROOM {
+            return None;
+        }
+        let input = HEADER + 8 * file[7] as usize;
+        let end = input + function.byte_count(size);
+        if end > file.len() {
+            return None;
+        }
+        Some(Case {
+            call: Call {
+                function,
+                coord: file[1] as usize,
+                comp: file[2] as usize,
+                flag: file[3] as usize,
+                n: file[4] as usize,
+                row: big_endian(&file[5..7]) as usize,
+            },
+            input,
+            end,
+            room,
+            stored: Seen {
+                told: Told {
+                    refused: file[12] as usize,
+                    count: big_endian(&file[13..15]) as usize,
+                },
+                sums: Sums {
+                    first: big_endian(&file[15..23]),
+                    second: big_endian(&file[23..31]),
+                },
+            },
+        })
+    }
+
+    // Makes the call of a case that the bytes begin with, on its own numbers.
+    fn seen(self, file: &[u8]) -> Seen
+        requires { Fits (length file.now) self }
+        ensures { result ≡ seen_at self file.now }
+    {
+        let entries = &file[HEADER..self.input];
+        let input = &file[self.input..self.end];
+        let mut decode = [0.0f64; MOST_ENTRIES];
+        let mut values = [0.0f64; MOST_INPUT];
+        let mut out = [-7.25f64; MOST_ROOM];
+        read_floats(entries, &mut decode);
+        read_floats(input, &mut values);
+        seen_of(
+            self.call,
+            input,
+            &decode[..entries.len() / 8],
+            &values[..input.len() / 8],
+            &mut out[..self.room],
+        )
+    }
 }
 
-fn is_same(a: Seen, b: Seen) -> bool
-    ensures { result ≡ is_same a b }
+// Replays the case that the bytes begin with.
+pub fn replay(file: &[u8]) -> Option<Replayed>
+    ensures value { result ≡ replayed file.now }
+    ensures moves { IfSome result (λ r. 0 < r.size) }
+    ensures within { IfSome result (λ r. r.size ≤ length file.now) }
 {
-    a.refused == b.refused && (a.count == b.count && (a.first == b.first && a.second == b.second))
-}
-
-// Replays the case at an index.
-pub fn replay(file: &[u8], at: usize) -> Replayed
-    ensures value { result ≡ replayed file.now at }
-    ensures moves { Moves at (length file.now) result }
-{
-    if !is_whole(file, at) {
-        return Replayed::Unreadable;
-    }
-    let seen = seen_at(file, at);
-    let next = end_place(file, at);
-    if is_same(seen, stored_at(file, at)) {
-        return Replayed::Agrees(next);
-    }
-    Replayed::Differs(seen, next)
+    let case = Case::read(file)?;
+    let seen = case.seen(file);
+    Some(Replayed {
+        size: case.end,
+        wrong: (seen != case.stored).then_some(seen),
+    })
 }

@@ -1,24 +1,24 @@
 -- `replay::replay_file` meets its contract: each case moves on and is counted, and there are no more cases than bytes. Assumes nothing.
-use Rattle.std.proofs.Common.{sym, arith}
-use Rattle.replay.proofs.Tallying.{counting_start, counting_agrees, counting_differs, counting_cut, counting_end}
+use Rattle.std.proofs.Common.{◌<◌, length, rules}
+use Rattle.replay.proofs.Tallying.{counting_case, counting_cut, counting_end}
 use Rattle.replay.proofs.replay_file.Goals as goal
 
-pub loop-at-init : goal.loop-at-init
-loop-at-init c = (omega arith, omega arith, counting_start _)
+pub returns-in_default : goal.returns-in_default
+returns-in_default g c = counting_cut _ _ _ (search rules) c.loop-rest.invariant (search rules)
 
-pub loop-at-preserved-in-Agrees : goal.loop-at-preserved-in-Agrees
-loop-at-preserved-in-Agrees c =
-    let m = c.in-Agrees.ensures.moves in
-    (m.1, omega arith, counting_agrees _ _ _ _ (omega arith) c.loop-at.invariant.2 (sym c.in-Agrees.ensures.value) m.0)
+pub loop-rest-preserved-in-None : goal.loop-rest-preserved-in-None
+loop-rest-preserved-in-None g c =
+    let l = c.loop-rest in
+    let r = c.in-Some in
+    let there : 0 < length l.rest.now = search rules in
+    rw c.in-None.is at (counting_case _ _ _ there l.invariant r.field-0 r.ensures.value r.ensures.moves r.ensures.within)
 
-pub loop-at-preserved-in-Differs : goal.loop-at-preserved-in-Differs
-loop-at-preserved-in-Differs c =
-    let m = c.in-Differs.ensures.moves in
-    (m.1, omega arith, counting_differs _ _ _ _ (omega arith) c.loop-at.invariant.2 (sym c.in-Differs.ensures.value) m.0)
-
-pub loop-at-preserved : goal.loop-at-preserved
-loop-at-preserved c =
-    (omega arith, omega arith, counting_cut _ _ _ _ (omega arith) c.loop-at.invariant.2 (sym c.in-Unreadable.ensures.value))
+pub loop-rest-preserved : goal.loop-rest-preserved
+loop-rest-preserved g c =
+    let l = c.loop-rest in
+    let r = c.in-Some in
+    let there : 0 < length l.rest.now = search rules in
+    rw c.in-Some-wrong.is at (counting_case _ _ _ there l.invariant r.field-0 r.ensures.value r.ensures.moves r.ensures.within)
 
 pub returns : goal.returns
-returns c = counting_end _ _ _ _ c.loop-at.invariant.2 (omega arith)
+returns g c = counting_end _ _ _ c.loop-rest.invariant (search rules)

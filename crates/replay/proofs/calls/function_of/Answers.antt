@@ -1,40 +1,22 @@
--- `replay::calls::function_of` meets its contract: each number picks its function. Assumes nothing.
-use Rattle.std.proofs.Common.{rules}
-use Rattle.replay.specs.Calls.{function_of}
-use Rattle.replay.proofs.Numbered.{unknown_function}
+-- `replay::calls::function_of` meets its contract: a type's number picks its function. Assumes nothing.
+use Rattle.std.proofs.Common.{◌∙◌}
+use Rattle.std.specs.Prelude.{Some, None}
+use Rattle.replay.proofs.Numbered.{reader_numbered, builder_numbered}
 use Rattle.replay.proofs.calls.function_of.Goals as goal
 
-pub returns-in-4 : goal.returns-in-4
-unfolding function_of
-returns-in-4 c = rw c.in-4.is
+pub returns-in_err-ok : goal.returns-in_err-ok
+returns-in_err-ok c =
+    c.from_residual.ensures ∙ reader_numbered _ None c.if-number-lt10.true (rw c.try_from.ensures at c.in_err-ok.ensures.value)
 
-pub returns-in-5 : goal.returns-in-5
-unfolding function_of
-returns-in-5 c = rw c.in-5.is
+pub returns-in_err-ok-2 : goal.returns-in_err-ok-2
+returns-in_err-ok-2 c =
+    c.from_residual-in_err-ok-2.ensures
+    ∙ builder_numbered _ None c.if-number-lt10.false (rw c.try_from-else-number-lt10.ensures at c.in_err-ok-2.ensures.value)
 
-pub returns-in-6 : goal.returns-in-6
-unfolding function_of
-returns-in-6 c = rw c.in-6.is
+pub returns-in_ok-ok : goal.returns-in_ok-ok
+returns-in_ok-ok c =
+    reader_numbered _ (Some c.in_ok-ok.field-0) c.if-number-lt10.true (rw c.try_from.ensures at c.in_ok-ok.ensures.value)
 
-pub returns-in-7 : goal.returns-in-7
-unfolding function_of
-returns-in-7 c = rw c.in-7.is
-
-pub returns-in-14 : goal.returns-in-14
-unfolding function_of
-returns-in-14 c = rw c.in-14.is
-
-pub returns-in-15 : goal.returns-in-15
-unfolding function_of
-returns-in-15 c = rw c.in-15.is
-
-pub returns-in-16 : goal.returns-in-16
-unfolding function_of
-returns-in-16 c = rw c.in-16.is
-
-pub returns-in-17 : goal.returns-in-17
-unfolding function_of
-returns-in-17 c = rw c.in-17.is
-
-pub returns-in_default : goal.returns-in_default
-returns-in_default c = search (rules, unknown_function)
+pub returns-in_ok-ok-2 : goal.returns-in_ok-ok-2
+returns-in_ok-ok-2 c =
+    builder_numbered _ (Some c.in_ok-ok-2.field-0) c.if-number-lt10.false (rw c.try_from-else-number-lt10.ensures at c.in_ok-ok-2.ensures.value)

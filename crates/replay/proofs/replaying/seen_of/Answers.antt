@@ -7,4 +7,4 @@ pub returns : goal.returns
 unfolding seen_of
 returns c =
     let d = c.answer.ensures in
-    rw (c.tell-told.ensures ∙ d.answered, c.sum_up-sums.ensures, d.held)
+    rw (c.from-told.ensures ∙ d.answered, c.sum_up.ensures, d.held)

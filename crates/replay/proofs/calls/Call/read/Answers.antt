@@ -1,6 +1,6 @@
--- `replay::calls::read` meets its contract: the mesh type picks the function. Assumes nothing.
+-- `replay::calls::Call::read` meets its contract: the mesh type picks the function. Assumes nothing.
 use Rattle.meshes.specs.Outcomes.{ported_reader}
-use Rattle.replay.proofs.calls.read.Goals as goal
+use Rattle.replay.proofs.calls.Call.read.Goals as goal
 
 pub returns-in-Four : goal.returns-in-Four
 unfolding ported_reader
