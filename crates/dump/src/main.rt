@@ -20,7 +20,7 @@ fn keep(came: &[u8], room: &mut [u8]) -> usize
     kept
 }
 
-// Reads to the end, and drops what there is no room for; answers how many bytes were kept.
+// Reads to the end, and drops what there is no room for; answers how many bytes were kept. `read_to_end` would need a heap.
 fn read_input<R: Read>(reader: &mut R, file: &mut [u8]) -> io::Result<usize>
     ensures fits { IfOk result (λ kept. kept ≤ length file.new) }
     ensures first { IfOk result (λ kept. IfSome (R.remaining reader.old) (λ xs. take kept file.new ≡ take (length file.new) xs)) }

@@ -76,7 +76,7 @@ impl Text<'_> {
         self.put_byte(b'\n');
     }
 
-    // ---- the lines of a mesh
+    // ---- the lines of a mesh; a loop for each kind of piece, since a closure would carry the piece's whole contract
 
     fn put_rows(&mut self, coords: usize, size: usize, rows: &[f64])
         requires whole { coords + 8 ≤ size }

@@ -36,7 +36,7 @@ impl<'a> Text<'a> {
         self.at = end;
     }
 
-    // A digit in any base up to 16.
+    // A digit in any base up to 16. Numbers are not printed by `write!`: that answers an error, and here the room is proved.
     pub fn put_digit(&mut self, digit: u32)
         requires in_base { digit < 16 }
         requires room { self.old.at + 1 ≤ length self.old.out.now }

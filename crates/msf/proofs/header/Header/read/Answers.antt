@@ -27,8 +27,8 @@ pub returns-then-big_endian-ne5067590-clause-refused : goal.returns-then-big_end
 returns-then-big_endian-ne5067590-clause-refused c =
     let s = c.args.file.now in
     elim c.then-big_endian-ne5067590.branch [
-      then-big_endian-ne5067590-via-then-big_endian-ne5067590 w ↦ ill_formed s (λ t. w.if-big_endian-ne5067590.true (c.big_endian.ensures.value ∙ part_there s 0 3 0 3 refl refl (omega arith) (omega arith) ∙ t.marked)) |
-      then-big_endian-ne5067590-via-else-big_endian-ne5067590+then-big_endian-ne1 w ↦ ill_formed s (λ t. w.if-big_endian-ne1.true (w.big_endian-else-big_endian-ne5067590.ensures.value ∙ part_there s 3 5 3 2 refl refl (omega arith) (omega arith) ∙ t.first))
+      | then-big_endian-ne5067590-via-then-big_endian-ne5067590 w ↦ ill_formed s (λ t. w.if-big_endian-ne5067590.true (c.big_endian.ensures.value ∙ part_there s 0 3 0 3 refl refl (omega arith) (omega arith) ∙ t.marked))
+      | then-big_endian-ne5067590-via-else-big_endian-ne5067590+then-big_endian-ne1 w ↦ ill_formed s (λ t. w.if-big_endian-ne1.true (w.big_endian-else-big_endian-ne5067590.ensures.value ∙ part_there s 3 5 3 2 refl refl (omega arith) (omega arith) ∙ t.first))
     ]
 
 pub returns-in_err-kind-clause-refused : goal.returns-in_err-kind-clause-refused
