@@ -1,13 +1,13 @@
 -- Numbers that stand high byte first: one byte more, up to eight fit a word, and what is read where all or not all is there. Assumes nothing.
-use Rattle.std.proofs.Common.{◌≡◌, ℕ, zero, suc, ◌+◌, ◌*◌, ◌/◌, ◌^◌, ◌<◌, ◌≤◌, min, List, length, get_or, take, drop, refl, ap, ap₂, zero-add, length-take, length-drop, ◌-◌, ◌∙◌, add-one, arith, le-leb}
+use Rattle.std.proofs.Common.{◌≡◌, ℕ, zero, suc, ◌+◌, ◌*◌, ◌^◌, ◌<◌, ◌≤◌, List, length, get_or, take, drop, refl, ap, ap₂, zero-add, length-take, length-drop, ◌-◌, ◌∙◌, add-one, arith, le-leb}
 use native.Mathlib.Nat.{pow-succ', pow-le-pow_right}
 use Rattle.std.proofs.lemmas.List.{get_or-take, get_or-drop}
 use borrow.Author.Tests.{lt-leb}
 use lib.Ieee.{Float, binary64, of_bits}
-use Rattle.lists.specs.Writing.{Written}
+use Rattle.lists.specs.Writing.{put}
 use Rattle.lists.proofs.Pieces.{length_singles}
 use Rattle.decode.specs.Stored.{big_endian, floats_at}
-use Rattle.decode.specs.Inner.Reading.{big_endian_or0, with_floats}
+use Rattle.decode.specs.Inner.Reading.{big_endian_or0, big_endian_at_or0, with_floats_at}
 
 pub big_endian-more : (s : List ℕ) (at k : ℕ) → big_endian s at (k + 1) ≡ 256 * big_endian s at k + get_or s (at + k) 0
 unfolding big_endian
@@ -59,8 +59,32 @@ part_there s from to at k e f there few =
     let size : to - from ≡ k = omega arith in
     rw (size, e) (number_of_part s at k (omega arith) few)
 
-module _ (entry : List Float) (s : List ℕ) where
-  pub floats_held : {exit : List Float} {k : ℕ} → k ≡ min (length s / 8) (length entry) → Written entry exit 0 (floats_at s 0 k) k
-      → exit ≡ with_floats entry s
-  unfolding with_floats
-  floats_held e w = rw (← e) w.held
+-- ---- from any index on
+
+module _ (s : List ℕ) (at k : ℕ) where
+  pub long_at : 8 < k → 0 ≡ big_endian_at_or0 s at k
+  unfolding big_endian_at_or0
+  long_at h = rw (lt-leb _ _ h)
+
+  module _ (few : k ≤ 8) where
+    pub cut_at : length s < at + k → 0 ≡ big_endian_at_or0 s at k
+    unfolding big_endian_at_or0
+    cut_at h = rw (le-leb _ _ few, lt-leb _ _ h)
+
+    pub number_at : at + k ≤ length s → big_endian s at k ≡ big_endian_at_or0 s at k
+    unfolding big_endian_at_or0
+    number_at h = rw (le-leb _ _ few, le-leb _ _ h)
+
+  module _ (entry : List Float) where
+    pub floats_cut : length s < at + 8 * k → entry ≡ with_floats_at entry s at k
+    unfolding with_floats_at
+    floats_cut h = rw (lt-leb _ _ h)
+
+    module _ (there : at + 8 * k ≤ length s) where
+      pub floats_crowded : length entry < k → entry ≡ with_floats_at entry s at k
+      unfolding with_floats_at
+      floats_crowded h = rw (le-leb _ _ there, lt-leb _ _ h)
+
+      pub floats_put : k ≤ length entry → put entry 0 (floats_at s at k) ≡ with_floats_at entry s at k
+      unfolding with_floats_at
+      floats_put room = rw (le-leb _ _ there, le-leb _ _ room)
