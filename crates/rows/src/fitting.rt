@@ -42,11 +42,16 @@ impl Input<'_> {
         }
     }
 
-    // Whether so many places from a place on are there.
+    // Whether so many places from a place on are there. That bytes are few is known, but not to a compiler, which then tests it at each read.
     fn has(&self, place: Place, size: usize) -> bool
         ensures { result ≡ leb (place.0 + size) (places self.now.source) }
     {
-        has_room(place.0, size, self.places())
+        match self.source {
+            Source::Bits(bytes) => {
+                bytes.len() <= answers::MOST_BYTES && has_room(place.0, size, 8 * bytes.len())
+            }
+            Source::List(values) => has_room(place.0, size, values.len()),
+        }
     }
 
     // Whether a vertex is there, and the rows that come with it have room.

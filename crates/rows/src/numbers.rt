@@ -92,16 +92,16 @@ impl Decoded<'_> {
         let ranges = self.ranges;
         let comp = self.input.layout.comp;
         let n = self.input.layout.n;
-        for pair in 0..n / 2 {
-            let j = 2 * pair;
+        let mut j: usize = 0;
+        while j + 1 < n {
             let a = read_component(bytes, comp, ranges, from, j);
             let b = read_component(bytes, comp, ranges, from, j + 1);
             out[at + j] = a;
             out[at + j + 1] = b;
+            j += 2;
         }
-        if n % 2 == 1 {
-            let last = n - 1;
-            out[at + last] = read_component(bytes, comp, ranges, from, last);
+        if j < n {
+            out[at + j] = read_component(bytes, comp, ranges, from, j); // the last of an odd count
         }
         at + n
     }

@@ -63,16 +63,16 @@ pub fn write_part(values: &[f64], out: &mut [f64], at: usize) -> usize
     ensures written { Written out.old out.new at values.now result }
 {
     let n = values.len();
-    for pair in 0..n / 2 {
-        let j = 2 * pair;
+    let mut j: usize = 0;
+    while j + 1 < n {
         let a = values[j];
         let b = values[j + 1];
         out[at + j] = a;
         out[at + j + 1] = b;
+        j += 2;
     }
-    if n % 2 == 1 {
-        let last = n - 1;
-        out[at + last] = values[last];
+    if j < n {
+        out[at + j] = values[j]; // the last of an odd count
     }
     at + n
 }
@@ -84,8 +84,18 @@ pub fn copy_part(out: &mut [f64], from: usize, n: usize, at: usize) -> usize
     ensures value { result ≡ at + n }
     ensures written { Written out.old out.new at (part nan out.old from n) result }
 {
-    let (before, rest) = out.split_at_mut(at);
-    at + write_part(&before[from..from + n], rest, 0)
+    let mut j: usize = 0;
+    while j + 1 < n {
+        let a = out[from + j];
+        let b = out[from + j + 1];
+        out[at + j] = a;
+        out[at + j + 1] = b;
+        j += 2;
+    }
+    if j < n {
+        out[at + j] = out[from + j]; // the last of an odd count
+    }
+    at + n
 }
 
 // Half of a colour's eight numbers. A machine that has just stored two numbers together hands them on together, and single ones alone; so they are
