@@ -1,3 +1,4 @@
+pub mod EachForm
 pub mod Found
 pub mod Records
 pub mod NextPatch

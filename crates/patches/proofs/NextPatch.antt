@@ -8,6 +8,7 @@ use native.Mathlib.Nat.{le_of_suc-le-suc}
 use native.Mathlib.Omega.{arith}
 use lib.ListN.{length, get_elem?}
 use lib.Ieee.{Float, nan}
+use Rattle.std.specs.Prelude.{Some}
 use Rattle.lists.specs.Lists.{All}
 use Rattle.decode.specs.Decode.{Ranges}
 use Rattle.rows.specs.declared.Place.{Place}
@@ -18,10 +19,11 @@ use Rattle.rules.proofs.Patches.{Before, mesh_more}
 use Rattle.rules.proofs.Meshes.{Numbered, onto_numbered}
 use Rattle.rules.proofs.RawReading.{there}
 use Rattle.rules.proofs.Rows.{onto_row, length-patch_row}
-use Rattle.meshes.proofs.PatchRecords.{RowPiece, RowPatch, Brings, row_of, highest}
+use Rattle.meshes.proofs.PatchRecords.{RowPiece, RowPatch, Brings, row_of}
 use Rattle.patches.specs.declared.finding.Records.{Records}
-use Rattle.patches.specs.declared.finding.Found.TheVariants.{Record}
-use Rattle.patches.specs.Inner.Records.{Suits, found_at, points_from, colours_from, patch_size, point_in, colour_in, side_points, side_colours, row_at}
+use Rattle.patches.specs.Inner.Forms.{own_of, table_of}
+use Rattle.patches.specs.Inner.Records.{most_after, found_at, points_from, colours_from, patch_size, point_in, colour_in, side_points, side_colours, row_at}
+use Rattle.patches.proofs.EachForm.{three_sides, table_fits}
 use Rattle.patches.proofs.Found.{found_whole}
 use Rattle.patches.proofs.Records.{Promised, rest_more}
 
@@ -32,11 +34,11 @@ side_there k (x ∷ T) (suc f) h a = side_there k T f (le_of_suc-le-suc h) a.1
 
 -- all points, and four colours of 8 + n numbers
 abbrev pub Filled : Records → RowPatch → Type 0
-Filled m p = Numbered (4 + m.own) 4 (8 + m.layout.n) p
+Filled m p = Numbered (4 + own_of m.form) 4 (8 + m.input.layout.n) p
 
 pub length-row : (m : Records) (p : RowPatch) → Filled m p → length (row_of p) ≡ patch_size m
 length-row m p h =
-    length-patch_row (λ (row : List Float). row) (λ (row : List Float). row) 2 (8 + m.layout.n) (4 + m.own) 4 p h.0 h.1
+    length-patch_row (λ (row : List Float). row) (λ (row : List Float). row) 2 (8 + m.input.layout.n) (4 + own_of m.form) 4 p h.0 h.1
 
 -- the patch before, if there is one, stands in the output from index start on
 pub record PatchStands (p : RowPatch) (o : List Float) (start : ℕ) : Type 0 where
@@ -45,25 +47,27 @@ pub record PatchStands (p : RowPatch) (o : List Float) (start : ℕ) : Type 0 wh
   pub place : length front ≡ start
   pub split : o ≡ front ++ (row_of p ++ back)
 
-module _ {T : Table} {m : Records} {s : List ℕ} {vs : List Float} {R : Ranges} (w : Promised T m s vs R) where
+module _ {m : Records} {R : Ranges} (w : Promised m R) where
+  abbrev T : Table
+  T = table_of m.form
+
   -- the patch of the record at a place
   pub record Next (b : Option RowPatch) (pos f : ℕ) (next : Place) : Type 0 where
     pub new : RowPatch
-    pub gives : mesh T b (w.kept.from (there b) pos) ≡ new ∷ mesh T (some new) (w.kept.from true next.0)
+    pub gives : mesh (table_of m.form) b (w.kept.from (there b) pos) ≡ new ∷ mesh (table_of m.form) (some new) (w.kept.from true next.0)
     pub filled : Filled m new
-    pub row : (o : List Float) (start : ℕ) → Before (λ (p : RowPatch). PatchStands p o start) b → row_of new ≡ row_at T m s vs R o start f pos
+    pub row : (o : List Float) (start : ℕ) → Before (λ (p : RowPatch). PatchStands p o start) b → row_of new ≡ row_at m R o start f pos
 
-  pub next_patch : Suits T m → (b : Option RowPatch) → Before (Filled m) b → (pos f : ℕ) (next : Place) → Record f next ≡ found_at m s vs (highest b) pos
-      → Next b pos f next
-  next_patch suits b z pos f next e =
-      let h = found_whole m s vs (highest b) pos f next e in
+  pub next_patch : (b : Option RowPatch) → Before (Filled m) b → (pos f : ℕ) (next : Place) → Some (f, next) ≡ found_at m (there b) pos → Next b pos f next
+  next_patch b z pos f next e =
+      let h = found_whole m (there b) pos f next e in
       let t = rest_more w b pos f next e in
       go b f z h.allowed t.0 t.1 t.2
     where
-      go : (b : Option RowPatch) (f : ℕ) → Before (Filled m) b → f ≤ highest b → (q : RowPiece)
+      go : (b : Option RowPatch) (f : ℕ) → Before (Filled m) b → f ≤ most_after (there b) → (q : RowPiece)
           → w.kept.from (there b) pos ≡ q ∷ w.kept.from true next.0
-          → Brings m.own m.layout.n f (points_from m s vs R (points_after m.own f) (pos + m.layout.flag))
-          (colours_from m s vs R (colours_after f) (pos + m.layout.flag + points_after m.own f * (2 * m.layout.coord))) q
+          → Brings (own_of m.form) m.input.layout.n f (points_from m R (points_after (own_of m.form) f) (pos + m.input.layout.flag))
+          (colours_from m R (colours_after f) (pos + m.input.layout.flag + points_after (own_of m.form) f * (2 * m.input.layout.coord))) q
           → Next b pos f next
       go b zero z a q e v =
           record {
@@ -74,15 +78,15 @@ module _ {T : Table} {m : Records} {s : List ℕ} {vs : List Float} {R : Ranges}
           }
       go none (suc f) z a q e v = absurd (omega arith)
       go (some b) (suc f) z a q e v =
-          let t = side_there (4 + m.own) T f (omega (arith, suits.three)) suits.fits in
+          let t = side_there (4 + own_of m.form) T f (omega (arith, three_sides m.form)) (table_fits m.form) in
           record {
             new = onto b t.0 q.body;
             gives = ap (mesh T (some b)) e ∙ mesh_more T (some b) q _ (onto b t.0 q.body) (rw (v.flagged, t.1));
-            filled = onto_numbered nan (λ (x : Float). 0) m.own (8 + m.layout.n) b t.0 q.body z t.2 v.numbered;
+            filled = onto_numbered nan (λ (x : Float). 0) (own_of m.form) (8 + m.input.layout.n) b t.0 q.body z t.2 v.numbered;
             row =
                 λ o start k.
                 unfold row_at side_points side_colours point_in colour_in in
-                onto_row (λ (row : List Float). row) (λ (row : List Float). row) 2 (8 + m.layout.n) nan o k.front k.back start b z.1 k.place
+                onto_row (λ (row : List Float). row) (λ (row : List Float). row) 2 (8 + m.input.layout.n) nan o k.front k.back start b z.1 k.place
                 k.split t.0 q.body (rw z.0.0 t.2.1) (rw z.0.1 t.2.2)
                 ∙ rw (v.points_are, v.colours_are, t.1, z.0.0);
           }

@@ -1,142 +1,94 @@
--- A call that got past its tests has records that can be walked, and its outcome is their mesh. Assumes nothing.
-use Prim.Native.Nat.{ℕ, ◌+◌, ◌*◌, ◌≤◌}
-use mathlib.Core.Path.{◌≡◌, refl, sym, ap, ◌∙◌}
-use mathlib.Core.Bool.{true, false}
+-- A call that got past its tests has the outcome of its mesh. Assumes nothing.
+use Prim.Native.Nat.{ℕ, ◌+◌, ◌^◌, ◌≤◌, ◌<◌}
+use mathlib.Core.Path.{◌≡◌, refl, sym, ap, ap₂, ◌∙◌}
+use mathlib.Core.Bool.{true}
 use mathlib.Core.List.{List}
 use native.Mathlib.Omega.{arith}
 use lib.ListN.{length}
 use lib.Ieee.{Float}
+use Rattle.std.specs.Prelude.{Some}
+use Rattle.std.specs.Borrow.{Bor}
 use Rattle.lists.specs.Lists.{All}
 use Rattle.answers.specs.Limits.{most_components, most_bytes, most_numbers}
-use Rattle.decode.specs.Decode.{Ranges, ranges}
-use Rattle.records.specs.declared.layout.FlagWidth.TheVariants.{Bits}
-use Rattle.records.specs.Format.{Meaning}
+use Rattle.decode.specs.Decode.{ranges}
+use Rattle.records.specs.Format.{Meaning, whole_number, two_low_bits}
 use Rattle.records.specs.Layout.{layout_readable}
-use Rattle.records.proofs.Layouts.{layout_widths}
-use Rattle.rows.specs.Inner.Layouts.{masked, range_list, held_ranges}
+use Rattle.rows.specs.declared.Source.{Source}
+use Rattle.rows.specs.declared.Source.TheVariants.{Bits, List as Listed}
+use Rattle.rows.specs.declared.Layout.{Layout}
+use Rattle.rows.specs.declared.Input.{Input}
+use Rattle.rows.specs.Inner.Sources.{masked, range_list, held_ranges}
 use Rattle.rows.proofs.Held.{held_ranges_lem}
-use Rattle.rules.specs.Patches.{sides}
-use Rattle.rules.specs.Inner.Sides.{Fits}
+use Rattle.rows.proofs.Masks.{whole_masked, low_masked}
+use Rattle.rules.specs.Patches.{sides, list_sides}
 use Rattle.rules.specs.Meshes.{Finished, patch_mesh}
-use Rattle.rules.proofs.Tables.{sides_fit}
 use Rattle.meshes.specs.Decoded.{by_decode}
 use Rattle.meshes.specs.Outcomes.{fitted_mesh, Stream, raw_of}
 use Rattle.meshes.proofs.Endings.{accepted, list_accepted}
+use Rattle.meshes.proofs.FlagReadings.{Kept, type6_kept, type7_kept, word_outcome}
 use Rattle.meshes.proofs.Ranges.{patches_alike}
-use Rattle.patches.specs.declared.Form.{Form}
-use Rattle.patches.specs.declared.Form.TheVariants.{Coons, Tensor}
-use Rattle.patches.specs.declared.sides.Sides.{Sides}
-use Rattle.patches.specs.declared.sides.Sides.TheVariants.{Border, Grid}
+use Rattle.patches.specs.declared.forms.Form.{Form}
+use Rattle.patches.specs.declared.forms.Form.TheVariants.{Coons, Tensor, Grid}
+use Rattle.patches.specs.Inner.Forms.{kind_of, own_of, table_of, parsed_form, built_form}
 use Rattle.patches.specs.declared.finding.Records.{Records}
-use Rattle.patches.specs.Inner.Forms.{type_of_form, own_of, table_of, parsed_form, built_form}
-use Rattle.patches.specs.Inner.Records.{RecordsThere, Suits, finished_of}
+use Rattle.patches.specs.Inner.Records.{finished_in}
+use Rattle.patches.proofs.EachForm.{table_fits}
 
--- ---- the records of a call
+-- what the numbers of a source come to by Decode's entries
+abbrev mesh_in : Source → Layout → ℕ → Form → List Float → Finished Float
+mesh_in S L mask form entries = finished_in S L mask form (held_ranges (range_list entries L.coord L.comp))
 
-abbrev pub list_records : ℕ → ℕ → List Float → Records
-list_records own n vs =
-    record { layout = record { listed = true; flag = 1; coord = 1; comp = 1; n = n }; mask = 4294967295; own = own; limit = length vs }
+abbrev mesh_of : Records → List Float → Finished Float
+mesh_of m entries = mesh_in m.input.source m.input.layout m.mask m.form entries
 
-abbrev pub bit_records : ℕ → ℕ → ℕ → ℕ → ℕ → ℕ → List ℕ → Records
-bit_records flag mask coord comp own n s =
-    record { layout = record { listed = false; flag = flag; coord = coord; comp = comp; n = n }; mask = mask; own = own; limit = 8 * length s }
+abbrev stream_of : Form → ℕ → Layout → List Float → Stream
+stream_of form mask L entries =
+    record { kind = kind_of form; meaning = masked mask; flag = Some L.flag; coord = L.coord; comp = L.comp; entries = entries; n = L.n }
 
-own_few : (form : Form) (own : ℕ) → own ≡ own_of form → own ≤ 12
-own_few Coons own e = omega arith
-own_few Tensor own e = omega arith
+-- the ranges of the list are Decode's, as far as a record has kinds
+same_ranges : (L : Layout) (mask : ℕ) (form : Form) (entries : List Float) → L.n ≤ most_components → (xs : List ℕ) → patch_mesh (table_of form) (own_of form) (by_decode (masked mask) (held_ranges (range_list entries L.coord L.comp))) L.n xs
+    ≡ patch_mesh (table_of form) (own_of form) (by_decode (masked mask) (ranges entries L.coord L.comp)) L.n xs
+same_ranges L mask form entries few xs =
+    patches_alike (masked mask) (held_ranges (range_list entries L.coord L.comp)) (ranges entries L.coord L.comp) L.n
+    (λ k h. held_ranges_lem entries L.coord L.comp k (omega arith)) (table_of form) (own_of form) (table_fits form) xs
 
-never : {A : Type 0} → true ≡ false → A
-never e = let z : ◌≡◌ {A = ℕ} 0 1 = cc in absurd (omega arith)
+module _ (m : Records) {I : Input} {mask : ℕ} {form : Form} (entries entry : List Float) (of_input : m.input ≡ I) (of_mask : m.mask ≡ mask) (of_form : m.form ≡ form)
+    (few : I.layout.n ≤ most_components) where
+  records_mesh : {S : Source} → I.source ≡ S → mesh_of m entries ≡ mesh_in S I.layout mask form entries
+  records_mesh e =
+      ap (λ (J : Input). mesh_in J.source J.layout m.mask m.form entries) of_input
+      ∙ ap₂ (λ (k : ℕ) (f : Form). mesh_in I.source I.layout k f entries) of_mask of_form
+      ∙ ap (λ (S : Source). mesh_in S I.layout mask form entries) e
 
-pub list_there : (form : Form) (own n : ℕ) (s : List ℕ) (vs : List Float) → own ≡ own_of form → n ≤ most_components → length vs ≤ most_numbers
-    → RecordsThere (list_records own n vs) s vs
-list_there form own n s vs e few short =
-    let o = own_few form own e in
-    record {
-      fair =
-          record {
-            flag_some = omega arith;
-            flag_few = omega arith;
-            coord_some = omega arith;
-            coord_few = omega arith;
-            comp_some = omega arith;
-            comp_few = omega arith;
-            own_few = o;
-            n_few = few;
-            limit_few = omega arith;
-          };
-      in_list = λ t. (refl, refl, refl, refl, refl);
-      in_bits = λ t. never t;
-    }
+  pub list_outcome : {vs : Bor (List Float)} → I.source ≡ Listed vs → length vs.now ≤ most_numbers
+      → fitted_mesh (mesh_of m entries) (length entry) ≡ built_form form vs.now I.layout.n (length entry)
+  unfolding finished_in
+  list_outcome {vs} e short =
+      ap (λ (M : Finished Float). fitted_mesh M (length entry)) (records_mesh e)
+      ∙ sym (list_accepted (patch_mesh (table_of form) (own_of form)) I.layout.n vs.now entry few short)
 
-pub bits_there : (form : Form) (flag mask coord comp own n entries : ℕ) (s : List ℕ) (vs : List Float) → own ≡ own_of form
-    → layout_readable coord comp (Bits flag) entries ≡ true → n ≤ most_components → length s ≤ most_bytes
-    → RecordsThere (bit_records flag mask coord comp own n s) s vs
-bits_there form flag mask coord comp own n entries s vs e lay few short =
-    let o = own_few form own e in
-    let w = layout_widths (Bits flag) coord comp entries lay in
-    record {
-      fair =
-          record {
-            flag_some = w.of_first.some_bits;
-            flag_few = w.of_first.few_bits;
-            coord_some = w.of_coord.some_bits;
-            coord_few = w.of_coord.few_bits;
-            comp_some = w.of_comp.some_bits;
-            comp_few = w.of_comp.few_bits;
-            own_few = o;
-            n_few = few;
-            limit_few = omega arith;
-          };
-      in_list = λ t. never (sym t);
-      in_bits = λ t. (refl, short);
-    }
+  pub bits_outcome : {s : Bor (List ℕ)} → I.source ≡ Bits s → layout_readable I.layout.coord I.layout.comp (Some I.layout.flag) (length entries) ≡ true
+      → length s.now ≤ most_bytes
+      → fitted_mesh (mesh_of m entries) (length entry) ≡ parsed_form form (masked mask) s.now I.layout.coord I.layout.comp I.layout.flag entries I.layout.n (length entry)
+  unfolding finished_in
+  bits_outcome {s} e lay short =
+      ap (λ (M : Finished Float). fitted_mesh M (length entry)) (records_mesh e ∙ same_ranges I.layout mask form entries few (raw_of (stream_of form mask I.layout entries) s.now))
+      ∙ sym (accepted (stream_of form mask I.layout entries) (patch_mesh (table_of form) (own_of form)) s.now entry lay few short)
 
--- ---- its table
+-- ---- its reading
 
-three_rows : (table : Sides) → length (table_of table) ≡ 3
-three_rows Border = refl
-three_rows Grid = refl
+form_kept : (form : Form) → Kept (kind_of form) (patch_mesh (table_of form) (own_of form))
+form_kept Coons = type6_kept sides
+form_kept Tensor = type7_kept sides
+form_kept Grid = type7_kept list_sides
 
-pub table_suits : (table : Sides) (form : Form) (m : Records) → m.own ≡ own_of form → All (Fits (4 + own_of form)) (table_of table) → Suits (table_of table) m
-table_suits table form m e fit = record { three = three_rows table; fits = rw e fit }
+module _ (form : Form) (s : List ℕ) (coord comp flag : ℕ) (entries : List Float) (n room : ℕ) where
+  masked_outcome : (mask : ℕ) (meaning : Meaning) → ((x : ℕ) → x < 2 ^ 32 → masked mask x ≡ meaning x)
+      → parsed_form form (masked mask) s coord comp flag entries n room ≡ parsed_form form meaning s coord comp flag entries n room
+  masked_outcome mask meaning h = word_outcome (kind_of form) coord comp flag entries n (patch_mesh (table_of form) (own_of form)) (form_kept form) (masked mask) meaning h s room
 
-pub border_fits : (form : Form) → All (Fits (4 + own_of form)) sides
-border_fits Coons = sides_fit.0
-border_fits Tensor = sides_fit.1
+  pub whole_outcome : parsed_form form (masked 4294967295) s coord comp flag entries n room ≡ parsed_form form whole_number s coord comp flag entries n room
+  whole_outcome = masked_outcome 4294967295 whole_number whole_masked
 
--- ---- its outcome
-
-pub list_outcome : (table : Sides) (form : Form) (own n : ℕ) (s : List ℕ) (vs entry : List Float) (R : Ranges) → own ≡ own_of form
-    → n ≤ most_components → length vs ≤ most_numbers
-    → fitted_mesh (finished_of (table_of table) (list_records own n vs) s vs R) (length entry) ≡ built_form form table vs n (length entry)
-unfolding built_form finished_of
-list_outcome table form own n s vs entry R e few short =
-    rw e (sym (list_accepted (patch_mesh (table_of table) (own_of form)) n vs entry few short))
-
-abbrev stream_of : Form → Meaning → ℕ → ℕ → ℕ → List Float → ℕ → Stream
-stream_of form meaning coord comp flag entries n =
-    record { kind = type_of_form form; meaning = meaning; flag = Bits flag; coord = coord; comp = comp; entries = entries; n = n }
-
-module _ (flag mask coord comp n : ℕ) (entries : List Float) (s : List ℕ) (vs entry : List Float)
-    (lay : layout_readable coord comp (Bits flag) (length entries) ≡ true) (few : n ≤ most_components) (short : length s ≤ most_bytes) where
-  -- the ranges of the list are Decode's, as far as a record has kinds
-  same : (own : ℕ) (xs : List ℕ) → All (Fits (4 + own)) sides
-      → patch_mesh sides own (by_decode (masked mask) (held_ranges (range_list entries coord comp))) n xs
-      ≡ patch_mesh sides own (by_decode (masked mask) (ranges entries coord comp)) n xs
-  same own xs fit =
-      patches_alike (masked mask) (held_ranges (range_list entries coord comp)) (ranges entries coord comp) n
-      (λ k h. held_ranges_lem entries coord comp k (omega arith)) sides own fit xs
-
-  pub bits_outcome : (form : Form) (own : ℕ) → own ≡ own_of form
-      → fitted_mesh (finished_of sides (bit_records flag mask coord comp own n s) s vs (held_ranges (range_list entries coord comp))) (length entry)
-      ≡ parsed_form form (masked mask) s coord comp flag entries n (length entry)
-  unfolding parsed_form finished_of
-  bits_outcome Coons own e =
-      rw e
-      (ap (λ (M : Finished Float). fitted_mesh M (length entry)) (same 8 (raw_of (stream_of Coons (masked mask) coord comp flag entries n) s) sides_fit.0)
-      ∙ sym (accepted (stream_of Coons (masked mask) coord comp flag entries n) (patch_mesh sides 8) s entry lay few short))
-  bits_outcome Tensor own e =
-      rw e
-      (ap (λ (M : Finished Float). fitted_mesh M (length entry)) (same 12 (raw_of (stream_of Tensor (masked mask) coord comp flag entries n) s) sides_fit.1)
-      ∙ sym (accepted (stream_of Tensor (masked mask) coord comp flag entries n) (patch_mesh sides 12) s entry lay few short))
+  pub low_outcome : parsed_form form (masked 3) s coord comp flag entries n room ≡ parsed_form form two_low_bits s coord comp flag entries n room
+  low_outcome = masked_outcome 3 two_low_bits (λ x h. low_masked x)

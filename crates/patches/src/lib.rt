@@ -2,44 +2,24 @@
 // sources of records: bits, and a list of numbers.
 #![tactic(auto)]
 
-ghost use Rattle.std.specs.Prelude.{◌≡◌, length, ◌+◌};
-ghost use Rattle.lists.specs.Lists.{All};
+ghost use Rattle.std.specs.Prelude.{◌≡◌, length};
 ghost use Rattle.answers.specs.Outcome.{Done};
 ghost use Rattle.records.specs.Format.{whole_number, two_low_bits};
-ghost use Rattle.rows.specs.Inner.Layouts.{masked};
+ghost use Rattle.rows.specs.Inner.Sources.{masked};
 ghost use Rattle.rules.specs.Patches.{sides, list_sides};
-ghost use Rattle.rules.specs.Inner.Sides.{Fits};
 ghost use Rattle.meshes.specs.Outcomes.{parse6, parse7, build6, build7};
-ghost use Rattle.patches.specs.Inner.Forms.{own_of, table_of, parsed_form, built_form};
+ghost use Rattle.patches.specs.Inner.Forms.{parsed_form, built_form};
 
 use crate::finding::Records;
-use crate::sides::Sides;
+use crate::forms::Form;
 use answers::{Answer, Refusal};
-use records::layout::FlagWidth;
-use rows::Layout;
+use rows::{Input, Layout, Source};
 
 mod finding;
-mod sides;
+mod forms;
 mod writing;
 
-// Coons patches are Type 6, tensor-product patches are Type 7.
-#[derive(Clone, Copy)]
-enum Form {
-    Coons,
-    Tensor,
-}
-
-// How many points a joined patch has of its own.
-fn own_points(form: Form) -> usize
-    ensures { result ≡ own_of form }
-{
-    match form {
-        Form::Coons => 8,
-        Form::Tensor => 12,
-    }
-}
-
-// Both types and both readings: the mask has the bits of a flag that count.
+// Every form and both readings: the mask has the bits of a flag that count.
 fn parse_patches(
     data: &[u8],
     coord: usize,
@@ -53,56 +33,48 @@ fn parse_patches(
 ) -> Answer
     ensures { Done (parsed_form form (masked mask) «data».now coord comp flag decode.now n (length out.old)) out.old result out.new }
 {
-    if !records::layout::mesh_layout_is_readable(coord, comp, FlagWidth::Bits(flag), decode.len()) {
-        return Answer::Refused(Refusal::Layout);
+    if !records::layout::mesh_layout_is_readable(coord, comp, Some(flag), decode.len()) {
+        return Err(Refusal::Layout);
     }
     if n > answers::MOST_COMPONENTS {
-        return Answer::Refused(Refusal::Components);
+        return Err(Refusal::Components);
     }
     if data.len() > answers::MOST_BYTES {
-        return Answer::Refused(Refusal::Length);
+        return Err(Refusal::Length);
     }
     let layout = Layout {
-        listed: false,
         flag,
         coord,
         comp,
         n,
     };
-    let records = Records {
+    let input = Input {
+        source: Source::Bits(data),
         layout,
-        mask,
-        own: own_points(form),
-        limit: 8 * data.len(),
     };
-    writing::patches(data, &decode[0..0], decode, records, Sides::Border, out)
+    Records::new(input, mask, form).patches(decode, out)
 }
 
-fn build_patches(values: &[f64], n: usize, form: Form, sides: Sides, out: &mut [f64]) -> Answer
-    requires { All (Fits (4 + own_of form)) (table_of sides) }
-    ensures { Done (built_form form sides values.now n (length out.old)) out.old result out.new }
+fn build_patches(values: &[f64], n: usize, form: Form, out: &mut [f64]) -> Answer
+    ensures { Done (built_form form values.now n (length out.old)) out.old result out.new }
 {
     if n > answers::MOST_COMPONENTS {
-        return Answer::Refused(Refusal::Components);
+        return Err(Refusal::Components);
     }
     if values.len() > answers::MOST_NUMBERS {
-        return Answer::Refused(Refusal::Length);
+        return Err(Refusal::Length);
     }
     let layout = Layout {
-        listed: true,
         flag: 1,
         coord: 1,
         comp: 1,
         n,
     };
-    let records = Records {
+    let input = Input {
+        source: Source::List(values),
         layout,
-        mask: rows::WHOLE_NUMBER,
-        own: own_points(form),
-        limit: values.len(),
     };
-    let none = [0u8; 1];
-    writing::patches(&none, values, &values[0..0], records, sides, out)
+    Records::new(input, rows::WHOLE_NUMBER, form).patches(&[], out)
 }
 
 // ---- from bytes
@@ -212,13 +184,13 @@ pub fn published_type7_patches(
 pub fn build_type6_from_array(values: &[f64], n: usize, out: &mut [f64]) -> Answer
     ensures { Done (build6 sides values.now n (length out.old)) out.old result out.new }
 {
-    build_patches(values, n, Form::Coons, Sides::Border, out)
+    build_patches(values, n, Form::Coons, out)
 }
 
 pub fn build_type7_from_array(values: &[f64], n: usize, out: &mut [f64]) -> Answer
     ensures { Done (build7 list_sides values.now n (length out.old)) out.old result out.new }
 {
-    build_patches(values, n, Form::Tensor, Sides::Grid, out)
+    build_patches(values, n, Form::Grid, out)
 }
 
 // The published reading of the Type 6 list is the ported one; of the Type 7 list it takes the sides by the border.
@@ -226,11 +198,11 @@ pub fn build_type7_from_array(values: &[f64], n: usize, out: &mut [f64]) -> Answ
 pub fn published_type6_from_array(values: &[f64], n: usize, out: &mut [f64]) -> Answer
     ensures { Done (build6 sides values.now n (length out.old)) out.old result out.new }
 {
-    build_patches(values, n, Form::Coons, Sides::Border, out)
+    build_patches(values, n, Form::Coons, out)
 }
 
 pub fn published_type7_from_array(values: &[f64], n: usize, out: &mut [f64]) -> Answer
     ensures { Done (build7 sides values.now n (length out.old)) out.old result out.new }
 {
-    build_patches(values, n, Form::Tensor, Sides::Border, out)
+    build_patches(values, n, Form::Tensor, out)
 }

@@ -6,197 +6,193 @@ ghost use Rattle.lists.specs.Lists.{AllBelow, flat};
 ghost use Rattle.lists.specs.Writing.{Written};
 ghost use Rattle.answers.specs.Outcome.{Done};
 ghost use Rattle.decode.specs.Decode.{Ranges};
-ghost use Rattle.rows.specs.Inner.Layouts.{held_ranges, range_list};
-ghost use Rattle.rules.specs.Patches.{Table};
+ghost use Rattle.rows.specs.Inner.Sources.{held_ranges, range_list};
 ghost use Rattle.rules.specs.Inner.Sides.{Fits};
 ghost use Rattle.meshes.specs.Outcomes.{fitted_mesh};
-ghost use Rattle.patches.specs.Inner.Forms.{table_of, places_of};
-ghost use Rattle.patches.specs.Inner.Records.{RecordsThere, Suits, size_of, points_from, colours_from, patch_size, point_in, colour_in, with_side, row_at, finished_of};
+ghost use Rattle.patches.specs.Inner.Forms.{own_of, places_of};
+ghost use Rattle.patches.specs.Inner.Records.{size_of, points_from, colours_from, patch_size, point_in, colour_in, with_side, row_at, finished_of};
 
-use crate::finding::{Found, Records, find_record};
-use crate::sides::{Side, Sides, side_of};
+use crate::finding::Records;
+use crate::forms::Side;
 use answers::{Answer, Refusal};
-use rows::Place;
+use decode::Range;
+use rows::{Decoded, Layout, Place};
+
+// The records with Decode's ranges: what their patches are made of.
+#[derive(Clone, Copy)]
+struct Patches<'a> {
+    records: &'a Records<'a>,
+    ranges: &'a [Range; 34],
+}
 
 // ---- the side of the patch before
 
 fn copy_point(out: &mut [f64], start: usize, i: usize, at: usize) -> usize
-    requires { (start + (i * 2 + 2) ≤ at) × (at + 2 ≤ length out.old) }
+    requires before { start + (i * 2 + 2) ≤ at }
+    requires room { at + 2 ≤ length out.old }
     ensures value { result ≡ at + 2 }
     ensures written { Written out.old out.new at (point_in out.old start i) result }
 {
     rows::copy_point(out, start + i * 2, at)
 }
 
-fn copy_colour(out: &mut [f64], start: usize, n: usize, i: usize, at: usize) -> usize
-    requires { (i < 4) × (n ≤ 32) × (start + 4 * (8 + n) ≤ at) × (at + (8 + n) ≤ length out.old) }
-    ensures value { result ≡ at + (8 + n) }
-    ensures written { Written out.old out.new at (colour_in n out.old start i) result }
+fn copy_colour(layout: Layout, out: &mut [f64], start: usize, i: usize, at: usize) -> usize
+    requires few { i < 4 }
+    requires before { start + 4 * (8 + layout.n) ≤ at }
+    requires room { at + (8 + layout.n) ≤ length out.old }
+    ensures value { result ≡ at + (8 + layout.n) }
+    ensures written { Written out.old out.new at (colour_in layout.n out.old start i) result }
 {
-    rows::copy_colour(out, start + i * (8 + n), n, at)
+    layout.copy_colour(out, start + i * (8 + layout.n), at)
 }
 
-fn copy_side_points(out: &mut [f64], start: usize, side: Side, at: usize) -> usize
-    requires { (length side.points ≡ 4) × (AllBelow 16 side.points) × (start + 32 ≤ at) × (at + 8 ≤ length out.old) }
-    ensures value { result ≡ at + 8 }
-    ensures written { Written out.old out.new at (flat (point_in out.old start) side.points) result }
-{
-    let points = side.points;
-    let p = copy_point(out, start, points[0], at);
-    let q = copy_point(out, start, points[1], p);
-    let r = copy_point(out, start, points[2], q);
-    copy_point(out, start, points[3], r)
-}
+impl Side {
+    fn copy_points(&self, out: &mut [f64], start: usize, at: usize) -> usize
+        requires few { AllBelow 16 self.now.points }
+        requires before { start + 32 ≤ at }
+        requires room { at + 8 ≤ length out.old }
+        ensures value { result ≡ at + 8 }
+        ensures written { Written out.old out.new at (flat (point_in out.old start) self.now.points) result }
+    {
+        let mut p = at;
+        for i in self.points {
+            p = copy_point(out, start, i, p);
+        }
+        p
+    }
 
-fn copy_side_colours(out: &mut [f64], start: usize, n: usize, side: Side, at: usize) -> usize
-    requires { (length side.colours ≡ 2) × (AllBelow 4 side.colours) × (n ≤ 32) × (start + 4 * (8 + n) ≤ at) × (at + 2 * (8 + n) ≤ length out.old) }
-    ensures value { result ≡ at + 2 * (8 + n) }
-    ensures written { Written out.old out.new at (flat (colour_in n out.old start) side.colours) result }
-{
-    let colours = side.colours;
-    let p = copy_colour(out, start, n, colours[0], at);
-    copy_colour(out, start, n, colours[1], p)
+    fn copy_colours(&self, layout: Layout, out: &mut [f64], start: usize, at: usize) -> usize
+        requires few { AllBelow 4 self.now.colours }
+        requires before { start + 4 * (8 + layout.n) ≤ at }
+        requires room { at + 2 * (8 + layout.n) ≤ length out.old }
+        ensures value { result ≡ at + 2 * (8 + layout.n) }
+        ensures written { Written out.old out.new at (flat (colour_in layout.n out.old start) self.now.colours) result }
+    {
+        let mut p = at;
+        for i in self.colours {
+            p = copy_colour(layout, out, start, i, p);
+        }
+        p
+    }
 }
 
 // ---- a patch
 
-// A patch joined to no other: all its points and colours follow its flag.
-fn write_first(
-    data: &[u8],
-    values: &[f64],
-    records: Records,
-    ranges: &[f64; 68],
-    from: Place,
-    out: &mut [f64],
-    at: usize,
-) -> usize
-    requires { (RecordsThere records «data».now values.now) × (from.0 + ((4 + records.own) * (2 * records.layout.coord) + 4 * (records.layout.n * records.layout.comp)) ≤ records.limit) × (at + patch_size records ≤ length out.old) }
-    ensures value { result ≡ at + patch_size records }
-    ensures written { Written out.old out.new at (points_from records «data».now values.now (held_ranges ranges.now) (4 + records.own) from.0 ++ colours_from records «data».now values.now (held_ranges ranges.now) 4 (from.0 + (4 + records.own) * (2 * records.layout.coord))) result }
-{
-    let layout = records.layout;
-    let count = 4 + records.own;
-    let rest = Place(from.0 + count * (2 * layout.coord));
-    let p = rows::place_points(data, values, layout, ranges, count, from, out, at);
-    rows::place_colours(data, values, layout, ranges, 4, rest, out, p)
-}
-
-// A patch joined to the one that ends at at.
-fn write_next(
-    data: &[u8],
-    values: &[f64],
-    records: Records,
-    ranges: &[f64; 68],
-    side: Side,
-    from: Place,
-    out: &mut [f64],
-    at: usize,
-) -> usize
-    requires { (RecordsThere records «data».now values.now) × (Fits (4 + records.own) (places_of side)) × (from.0 + (records.own * (2 * records.layout.coord) + 2 * (records.layout.n * records.layout.comp)) ≤ records.limit) × (patch_size records ≤ at) × (at + patch_size records ≤ length out.old) }
-    ensures value { result ≡ at + patch_size records }
-    ensures written { Written out.old out.new at (with_side records out.old (at - patch_size records) (some (places_of side)) (points_from records «data».now values.now (held_ranges ranges.now) records.own from.0) (colours_from records «data».now values.now (held_ranges ranges.now) 2 (from.0 + records.own * (2 * records.layout.coord)))) result }
-{
-    let layout = records.layout;
-    let own = records.own;
-    let n = layout.n;
-    let points = (4 + own) * 2;
-    let start = at - (points + 4 * (8 + n));
-    let rest = Place(from.0 + own * (2 * layout.coord));
-    let p = copy_side_points(out, start, side, at);
-    let q = rows::place_points(data, values, layout, ranges, own, from, out, p);
-    let r = copy_side_colours(out, start + points, n, side, q);
-    rows::place_colours(data, values, layout, ranges, 2, rest, out, r)
-}
-
-// The patch of the record at a place.
-fn write_patch(
-    data: &[u8],
-    values: &[f64],
-    records: Records,
-    ranges: &[f64; 68],
-    sides: Sides,
-    flag: usize,
-    place: Place,
-    out: &mut [f64],
-    at: usize,
-) -> usize
-    requires { (RecordsThere records «data».now values.now) × (Suits (table_of sides) records) × (flag ≤ 3) × (place.0 + size_of records flag ≤ records.limit) × (1 ≤ flag → patch_size records ≤ at) × (at + patch_size records ≤ length out.old) }
-    ensures { Written out.old out.new at (row_at (table_of sides) records «data».now values.now (held_ranges ranges.now) out.old (at - patch_size records) flag place.0) result }
-{
-    let layout = records.layout;
-    let from = Place(place.0 + layout.flag);
-    if flag == 0 {
-        return write_first(data, values, records, ranges, from, out, at);
+impl Patches<'_> {
+    // A patch joined to no other: all its points and colours follow its flag.
+    fn write_first(self, from: Place, out: &mut [f64], at: usize) -> usize
+        requires there { from.0 + ((4 + own_of self.records.now.form) * (2 * self.records.now.input.layout.coord) + 4 * (self.records.now.input.layout.n * self.records.now.input.layout.comp)) ≤ self.records.now.limit }
+        requires room { at + patch_size self.records.now ≤ length out.old }
+        ensures value { result ≡ at + patch_size self.entry.records.now }
+        ensures written { Written out.old out.new at (points_from self.entry.records.now (held_ranges self.entry.ranges.now) (4 + own_of self.entry.records.now.form) from.0 ++ colours_from self.entry.records.now (held_ranges self.entry.ranges.now) 4 (from.0 + (4 + own_of self.entry.records.now.form) * (2 * self.entry.records.now.input.layout.coord))) result }
+    {
+        let decoded = Decoded {
+            input: &self.records.input,
+            ranges: self.ranges,
+        };
+        let points = 4 + self.records.form.own_points();
+        let rest = Place(from.0 + points * (2 * self.records.input.layout.coord));
+        let p = decoded.place_points(points, from, out, at);
+        decoded.place_colours(4, rest, out, p)
     }
-    let side = side_of(sides, flag);
-    write_next(data, values, records, ranges, side, from, out, at)
+
+    // A patch joined to the one that ends at at.
+    fn write_next(self, side: &Side, from: Place, out: &mut [f64], at: usize) -> usize
+        requires fits { Fits (4 + own_of self.records.now.form) (places_of side.now) }
+        requires there { from.0 + (own_of self.records.now.form * (2 * self.records.now.input.layout.coord) + 2 * (self.records.now.input.layout.n * self.records.now.input.layout.comp)) ≤ self.records.now.limit }
+        requires before { patch_size self.records.now ≤ at }
+        requires room { at + patch_size self.records.now ≤ length out.old }
+        ensures value { result ≡ at + patch_size self.entry.records.now }
+        ensures written { Written out.old out.new at (with_side self.entry.records.now out.old (at - patch_size self.entry.records.now) (some (places_of side.now)) (points_from self.entry.records.now (held_ranges self.entry.ranges.now) (own_of self.entry.records.now.form) from.0) (colours_from self.entry.records.now (held_ranges self.entry.ranges.now) 2 (from.0 + own_of self.entry.records.now.form * (2 * self.entry.records.now.input.layout.coord)))) result }
+    {
+        let decoded = Decoded {
+            input: &self.records.input,
+            ranges: self.ranges,
+        };
+        let layout = self.records.input.layout;
+        let own = self.records.form.own_points();
+        let start = at - self.records.patch_size();
+        let rest = Place(from.0 + own * (2 * layout.coord));
+        let p = side.copy_points(out, start, at);
+        let q = decoded.place_points(own, from, out, p);
+        let r = side.copy_colours(layout, out, start + (4 + own) * 2, q);
+        decoded.place_colours(2, rest, out, r)
+    }
+
+    // The patch of the record at a place.
+    fn write_patch(self, flag: u32, place: Place, out: &mut [f64], at: usize) -> usize
+        requires few { flag ≤ 3 }
+        requires there { place.0 + size_of self.records.now flag ≤ self.records.now.limit }
+        requires before { 1 ≤ flag → patch_size self.records.now ≤ at }
+        requires room { at + patch_size self.records.now ≤ length out.old }
+        ensures { Written out.old out.new at (row_at self.entry.records.now (held_ranges self.entry.ranges.now) out.old (at - patch_size self.entry.records.now) flag place.0) result }
+    {
+        let from = Place(place.0 + self.records.input.layout.flag);
+        if flag == 0 {
+            return self.write_first(from, out, at);
+        }
+        let side = self.records.form.side(flag);
+        self.write_next(side, from, out, at)
+    }
+
+    fn write_patches(self, out: &mut [f64]) -> usize
+        requires { length (finished_of self.records.now (held_ranges self.ranges.now)).numbers ≤ length out.old }
+        ensures { Written out.old out.new 0 (finished_of self.entry.records.now (held_ranges self.entry.ranges.now)).numbers result }
+    {
+        let mut at: usize = 0;
+        let mut place = Place(0);
+        let mut started = false; // only a patch joined to no other may come first
+        while let Some((flag, next)) = self.records.find(started, place) {
+            at = self.write_patch(flag, place, out, at);
+            place = next;
+            started = true;
+        }
+        at
+    }
 }
 
 // ---- the mesh
 
-// How many patches there are: only flags are read.
-fn count_patches(data: &[u8], values: &[f64], records: Records) -> usize
-    requires { RecordsThere records «data».now values.now }
-    ensures upper_bound { result ≤ records.limit }
-    ensures value { (T : Table) (R : Ranges) → Suits T records → result ≡ (finished_of T records «data».now values.now R).count }
-{
-    let mut count: usize = 0;
-    let mut place = Place(0);
-    let mut most: usize = 0;
-    loop {
-        let Found::Record(_, next) = find_record(data, values, records, most, place) else {
-            return count;
-        };
-        count += 1;
-        place = next;
-        most = 3; // now there is a patch to join
+impl Records<'_> {
+    // How many numbers a patch is written as.
+    fn patch_size(&self) -> usize
+        ensures { result ≡ patch_size self.now }
+    {
+        (4 + self.form.own_points()) * 2 + 4 * (8 + self.input.layout.n)
     }
-}
 
-fn write_patches(
-    data: &[u8],
-    values: &[f64],
-    records: Records,
-    ranges: &[f64; 68],
-    sides: Sides,
-    out: &mut [f64],
-) -> usize
-    requires { (RecordsThere records «data».now values.now) × (Suits (table_of sides) records) × (length (finished_of (table_of sides) records «data».now values.now (held_ranges ranges.now)).numbers ≤ length out.old) }
-    ensures { Written out.old out.new 0 (finished_of (table_of sides) records «data».now values.now (held_ranges ranges.now)).numbers result }
-{
-    let mut at: usize = 0;
-    let mut place = Place(0);
-    let mut most: usize = 0; // only a patch joined to no other may come first
-    loop {
-        let Found::Record(flag, next) = find_record(data, values, records, most, place) else {
-            return at;
-        };
-        at = write_patch(data, values, records, ranges, sides, flag, place, out, at);
-        place = next;
-        most = 3;
+    // How many patches there are: only flags are read.
+    fn count_patches(&self) -> usize
+        ensures upper_bound { result ≤ self.now.limit }
+        ensures value { (R : Ranges) → result ≡ (finished_of self.now R).count }
+    {
+        let mut count: usize = 0;
+        let mut place = Place(0);
+        let mut started = false;
+        while let Some((_, next)) = self.find(started, place) {
+            count += 1;
+            place = next;
+            started = true;
+        }
+        count
     }
-}
 
-// The patches, if there is room for them. Decode's ranges are worked out only then.
-pub fn patches(
-    data: &[u8],
-    values: &[f64],
-    decode: &[f64],
-    records: Records,
-    sides: Sides,
-    out: &mut [f64],
-) -> Answer
-    requires { (RecordsThere records «data».now values.now) × (Suits (table_of sides) records) }
-    ensures { Done (fitted_mesh (finished_of (table_of sides) records «data».now values.now (held_ranges (range_list decode.now records.layout.coord records.layout.comp))) (length out.old)) out.old result out.new }
-{
-    let layout = records.layout;
-    let count = count_patches(data, values, records);
-    let needed = count * ((4 + records.own) * 2 + 4 * (8 + layout.n));
-    if out.len() < needed {
-        return Answer::Refused(Refusal::Room(needed));
+    // The patches, if there is room for them. Decode's ranges are worked out only then.
+    pub fn patches(&self, decode: &[f64], out: &mut [f64]) -> Answer
+        ensures { Done (fitted_mesh (finished_of self.now (held_ranges (range_list decode.now self.now.input.layout.coord self.now.input.layout.comp))) (length out.old)) out.old result out.new }
+    {
+        let count = self.count_patches();
+        let needed = count * self.patch_size();
+        if out.len() < needed {
+            return Err(Refusal::Room(needed));
+        }
+        let mut ranges = [rows::NO_RANGE; 34];
+        self.input.fill_ranges(decode, &mut ranges);
+        let patches = Patches {
+            records: self,
+            ranges: &ranges,
+        };
+        patches.write_patches(out);
+        Ok(count)
     }
-    let mut ranges = [0.0; 68];
-    rows::fill_ranges(layout, decode, &mut ranges);
-    write_patches(data, values, records, &ranges, sides, out);
-    Answer::Wrote(count)
 }

@@ -1,15 +1,9 @@
--- `parse_type7_patches` meets its contract: it is `parse_patches` for one type, and its mask leaves the whole number. Assumes nothing.
-use Rattle.records.specs.declared.shape.Kind.TheVariants.{Seven}
-use Rattle.records.specs.Format.{whole_number}
-use Rattle.rows.specs.Inner.Layouts.{masked}
-use Rattle.rows.proofs.Masks.{whole_masked}
-use Rattle.rules.specs.Patches.{sides}
-use Rattle.meshes.proofs.FlagReadings.{type7_kept, word_outcome}
-use Rattle.patches.specs.Inner.Forms.{parsed_form}
+-- `parse_type7_patches` meets its contract: it is `parse_patches` for one form, and its mask leaves the whole number. Assumes nothing.
+use Rattle.patches.specs.declared.forms.Form.TheVariants.{Tensor}
+use Rattle.patches.proofs.Starting.{whole_outcome}
 use Rattle.patches.proofs.parse_type7_patches.Goals as goal
 
 pub returns : goal.returns
-unfolding parsed_form
 returns c =
-    rw (← (word_outcome Seven _ _ _ _ _ _ (type7_kept sides) (masked 4294967295) whole_number whole_masked _ _))
-    c.parse_patches.ensures
+    let a = c.args in
+    rw (whole_outcome Tensor a.data.now a.coord a.comp a.flag a.decode.now a.n _) at c.parse_patches.ensures
