@@ -73,7 +73,8 @@ impl DeviceColor {
     }
 }
 
-// The colour of a record's components, by their count.
+// The colour of a record's components, by their count. It is put into its callers, where it stays in registers.
+#[inline(always)]
 pub fn components_to_color(comps: &[f64]) -> DeviceColor
     ensures { result ≡ colour_of comps.now }
 {

@@ -38,6 +38,7 @@ fn decoded(raw: u32, range: Range) -> f64
     decode::decode_value(raw, range.scale, range.min)
 }
 
+#[inline(always)]
 fn read_point(bytes: &[u8], coord: usize, ranges: &[Range; 34], from: usize) -> (f64, f64)
     requires some { 1 ≤ coord }
     requires few { coord ≤ 32 }
@@ -82,6 +83,7 @@ impl Decoded<'_> {
     }
 
     // The components of a colour, two at a time: see `write_part`.
+    #[inline(always)]
     fn read_components(self, bytes: &[u8], from: usize, out: &mut [f64], at: usize) -> usize
         requires short { length bytes.now ≤ most_bytes }
         requires there { from + self.input.now.layout.n * self.input.now.layout.comp ≤ 8 * length bytes.now }
@@ -134,6 +136,7 @@ impl Decoded<'_> {
         }
     }
 
+    #[inline(always)]
     fn write_components(self, place: Place, out: &mut [f64], at: usize) -> usize
         requires there { place.0 + self.input.now.layout.n * self.input.now.layout.comp ≤ places self.input.now.source }
         requires room { at + self.input.now.layout.n ≤ length out.old }
