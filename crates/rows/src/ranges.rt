@@ -15,8 +15,8 @@ fn width_of(kind: usize, coord: usize, comp: usize) -> usize
 fn fill(decode: &[f64], coord: usize, comp: usize, ranges: &mut [Range; 34])
     ensures { ranges.new ≡ range_list decode.now coord comp }
 {
-    for kind in 0..34 {
-        ranges[kind] = decode::decode_range(decode, kind, width_of(kind, coord, comp));
+    for (kind, range) in ranges.iter_mut().enumerate() {
+        *range = decode::decode_range(decode, kind, width_of(kind, coord, comp));
     }
 }
 

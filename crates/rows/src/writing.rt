@@ -23,6 +23,7 @@ const NO_INKS: Cmyk = Cmyk {
     k: 0.0,
 };
 
+// Two numbers, stored together as they are copied later: see `copy_four`.
 pub fn write_two(a: f64, b: f64, out: &mut [f64], at: usize) -> usize
     requires { at + 2 ≤ length out.old }
     ensures value { result ≡ at + 2 }

@@ -22,7 +22,7 @@ mod free_form;
 mod lattice_form;
 mod vertices;
 
-// ---- from bits
+// ---- from bits, by the parameters of the C functions
 
 // Both readings: the mask has the bits of a flag that count.
 fn read_type4(
