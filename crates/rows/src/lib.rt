@@ -5,15 +5,16 @@
 ghost use Rattle.std.specs.Prelude.{◌≡◌, ◌≤◌};
 ghost use Rattle.rows.specs.Inner.Sources.{places, width_in, flag_at};
 
-use bits::BitPos;
 use decode::Range;
 
+mod any;
 mod copying;
 mod fitting;
 mod numbers;
 mod ranges;
 mod writing;
 
+pub use any::{fill_ranges, flag_at};
 pub use copying::copy_point;
 
 // Which bits of a flag count. A reader of bytes chooses once; the flags of a list are whole numbers.
@@ -76,19 +77,6 @@ impl Input<'_> {
     pub fn flag_at(&self, place: Place) -> u32
         ensures { result ≡ flag_at self.now.source self.now.layout.flag place.0 }
     {
-        let p = place.0;
-        match self.source {
-            Source::Bits(bytes) => match bits::read(bytes, BitPos(p), self.layout.flag) {
-                Some((flag, _)) => flag,
-                None => 0,
-            },
-            Source::List(values) => {
-                if p < values.len() {
-                    decode::flag_of(values[p])
-                } else {
-                    0
-                }
-            }
-        }
+        any::flag_at(self.source, self.layout.flag, place)
     }
 }

@@ -2,7 +2,7 @@
 ghost use Rattle.std.specs.Prelude.{◌≡◌, cond, ltb};
 ghost use Rattle.rows.specs.Inner.Sources.{range_list, filled_ranges};
 
-use crate::{Input, Source};
+use crate::{Input, any};
 use decode::Range;
 
 // The width of the numbers of a kind.
@@ -12,7 +12,7 @@ fn width_of(kind: usize, coord: usize, comp: usize) -> usize
     if kind < 2 { coord } else { comp }
 }
 
-fn fill(decode: &[f64], coord: usize, comp: usize, ranges: &mut [Range; 34])
+pub fn fill(decode: &[f64], coord: usize, comp: usize, ranges: &mut [Range; 34])
     ensures { ranges.new ≡ range_list decode.now coord comp }
 {
     for (kind, range) in ranges.iter_mut().enumerate() {
@@ -25,9 +25,12 @@ impl Input<'_> {
     pub fn fill_ranges(&self, decode: &[f64], ranges: &mut [Range; 34])
         ensures { ranges.new ≡ filled_ranges self.now.source (range_list decode.now self.now.layout.coord self.now.layout.comp) ranges.old }
     {
-        match self.source {
-            Source::Bits(_) => fill(decode, self.layout.coord, self.layout.comp, ranges),
-            Source::List(_) => {}
-        }
+        any::fill_ranges(
+            self.source,
+            decode,
+            self.layout.coord,
+            self.layout.comp,
+            ranges,
+        )
     }
 }

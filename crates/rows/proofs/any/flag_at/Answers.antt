@@ -1,9 +1,9 @@
--- `rows::Input::flag_at` meets its contract: past the end of a list stands NaN, whose flag is 0; else the list's number or the read answers.
+-- `rows::any::flag_at` meets its contract: past the end of a list stands NaN, whose flag is 0; else the list's number or the read answers.
 -- Assumes nothing.
 use lib.ListN.{get_or-eq_default}
 use lib.Ieee.{nan, to_unsigned}
 use Rattle.rows.specs.Inner.Sources.{flag_at}
-use Rattle.rows.proofs.Input.flag_at.Goals as goal
+use Rattle.rows.proofs.any.flag_at.Goals as goal
 
 pub returns-in-Some : goal.returns-in-Some
 unfolding flag_at
