@@ -6,4 +6,5 @@ pub mod Vertices
 pub mod Corners
 pub mod Masks
 pub mod Callers
+pub mod AnySource
 mod Rest

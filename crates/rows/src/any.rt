@@ -1,10 +1,54 @@
 // The promises that docs/PROMISES.md names hold for any values: these functions take any source, widths and place, and test themselves what `Input` holds.
-ghost use Rattle.std.specs.Prelude.{◌≡◌};
-ghost use Rattle.rows.specs.Inner.Sources.{flag_at, range_list, filled_ranges};
+ghost use Rattle.std.specs.Prelude.{◌≡◌, true, length};
+ghost use Rattle.lists.specs.Writing.{Placed};
+ghost use Rattle.colour.specs.Inner.Places.{points_at};
+ghost use Rattle.rows.specs.Inner.Sources.{numbers_of, flag_at, held_ranges, range_list, filled_ranges};
+ghost use Rattle.rows.specs.Inner.Any.{fair, Near, Holds, any_points_fit};
 
-use crate::{Place, Source, ranges};
+use crate::fitting::has_room;
+use crate::{Decoded, Input, Layout, Place, Source, ranges};
 use bits::BitPos;
 use decode::Range;
+
+// How many places a flag, a coordinate and a component take, and how many components a colour has: any numbers.
+#[derive(Clone, Copy)]
+pub struct Widths {
+    pub flag: usize,
+    pub coord: usize,
+    pub comp: usize,
+    pub n: usize,
+}
+
+impl Widths {
+    // Whether numbers of these widths can be placed from a source.
+    #[tactic(auto, unfolding(crate::specs::Inner::Any::fair))]
+    fn fair(self, source: Source) -> bool
+        ensures { result ≡ fair source.entry self }
+    {
+        self.n <= 32
+            && bits::width_is_readable(self.coord)
+            && bits::width_is_readable(self.comp)
+            && match source {
+                Source::Bits(bytes) => bytes.len() <= 16_777_216,
+                Source::List(_) => self.coord == 1 && self.comp == 1,
+            }
+    }
+
+    // The input that they are placed from. No flag of it is read.
+    fn input<'a>(self, source: Source<'a>) -> Input<'a>
+        requires fair { fair source self ≡ true }
+        requires near { Near source }
+        ensures { Holds source.entry self result }
+    {
+        let layout = Layout {
+            flag: 0,
+            coord: self.coord,
+            comp: self.comp,
+            n: self.n,
+        };
+        Input { source, layout }
+    }
+}
 
 // The flag of so many bits at a place as a whole number; 0 where there is none. In a list it takes one place.
 #[inline]
@@ -40,5 +84,44 @@ pub fn fill_ranges(
     match source {
         Source::Bits(_) => ranges::fill(decode, coord, comp, ranges),
         Source::List(_) => {}
+    }
+}
+
+// k points that begin at a place.
+pub fn place_points(
+    source: Source,
+    widths: Widths,
+    ranges: &[Range; 34],
+    k: usize,
+    place: Place,
+    out: &mut [f64],
+    at: usize,
+) -> usize
+    ensures { Placed (any_points_fit source.entry widths k place.0 at (length out.old)) out.old out.new at (points_at (numbers_of source.entry (held_ranges ranges.now)) widths.coord k place.0) result }
+{
+    if !widths.fair(source) {
+        return at;
+    }
+    match source {
+        Source::Bits(_) => {
+            let input = widths.input(source);
+            Decoded {
+                input: &input,
+                ranges,
+            }
+            .place_points(k, place, out, at)
+        }
+        Source::List(values) => {
+            let p = place.0;
+            if k > 16 || !has_room(p, 2 * k, values.len()) {
+                return at;
+            }
+            let input = widths.input(Source::List(&values[p..p + 2 * k]));
+            Decoded {
+                input: &input,
+                ranges,
+            }
+            .place_points(k, Place(0), out, at)
+        }
     }
 }

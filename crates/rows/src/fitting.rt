@@ -6,7 +6,7 @@ ghost use Rattle.rows.specs.Inner.Placing.{corner_fits, points_fit, colours_fit,
 use crate::{Input, Place, Source};
 
 // Whether a list of len elements has size of them from an index on.
-fn has_room(from: usize, size: usize, len: usize) -> bool
+pub fn has_room(from: usize, size: usize, len: usize) -> bool
     ensures { result ≡ leb (from + size) len }
 {
     from <= len && size <= len - from
