@@ -1,9 +1,10 @@
 // The promises that docs/PROMISES.md names hold for any values: these functions take any source, widths and place, and test themselves what `Input` holds.
-ghost use Rattle.std.specs.Prelude.{◌≡◌, true, length};
+ghost use Rattle.std.specs.Prelude.{◌≡◌, true, ◌+◌, ◌++◌, length};
 ghost use Rattle.lists.specs.Writing.{Placed};
-ghost use Rattle.colour.specs.Inner.Places.{points_at};
-ghost use Rattle.rows.specs.Inner.Sources.{numbers_of, flag_at, held_ranges, range_list, filled_ranges};
-ghost use Rattle.rows.specs.Inner.Any.{fair, Near, Holds, any_points_fit};
+ghost use Rattle.colour.specs.Inner.Places.{points_at, colours_at, vertex_at};
+ghost use Rattle.rows.specs.Inner.Sources.{width_in, numbers_of, flag_at, held_ranges, range_list, filled_ranges};
+ghost use Rattle.rows.specs.Inner.Placing.{shared_rows};
+ghost use Rattle.rows.specs.Inner.Any.{fair, Near, Holds, any_points_fit, any_colours_fit, any_corner_fits, widths_in};
 
 use crate::fitting::has_room;
 use crate::{Decoded, Input, Layout, Place, Source, ranges};
@@ -32,6 +33,20 @@ impl Widths {
                 Source::Bits(bytes) => bytes.len() <= 16_777_216,
                 Source::List(_) => self.coord == 1 && self.comp == 1,
             }
+    }
+
+    // The same where a list's numbers take one place each, whatever the widths.
+    fn widths_in(self, source: Source) -> Widths
+        ensures { result ≡ widths_in source.entry self }
+    {
+        match source {
+            Source::Bits(_) => self,
+            Source::List(_) => Widths {
+                coord: 1,
+                comp: 1,
+                ..self
+            },
+        }
     }
 
     // The input that they are placed from. No flag of it is read.
@@ -122,6 +137,86 @@ pub fn place_points(
                 ranges,
             }
             .place_points(k, Place(0), out, at)
+        }
+    }
+}
+
+// The rows of k colours that begin at a place.
+pub fn place_colours(
+    source: Source,
+    widths: Widths,
+    ranges: &[Range; 34],
+    k: usize,
+    place: Place,
+    out: &mut [f64],
+    at: usize,
+) -> usize
+    ensures { Placed (any_colours_fit source.entry widths k place.0 at (length out.old)) out.old out.new at (colours_at (numbers_of source.entry (held_ranges ranges.now)) widths.comp widths.n k place.0) result }
+{
+    if !widths.fair(source) {
+        return at;
+    }
+    match source {
+        Source::Bits(_) => {
+            let input = widths.input(source);
+            Decoded {
+                input: &input,
+                ranges,
+            }
+            .place_colours(k, place, out, at)
+        }
+        Source::List(values) => {
+            let p = place.0;
+            if k > 4 || !has_room(p, k * widths.n, values.len()) {
+                return at;
+            }
+            let input = widths.input(Source::List(&values[p..p + k * widths.n]));
+            Decoded {
+                input: &input,
+                ranges,
+            }
+            .place_colours(k, Place(0), out, at)
+        }
+    }
+}
+
+// The row of the vertex whose coordinates begin at a place, and before it the two rows of the side by which it is joined: see `Decoded::place_corner`.
+pub fn place_corner(
+    source: Source,
+    widths: Widths,
+    ranges: &[Range; 34],
+    place: Place,
+    side: usize,
+    out: &mut [f64],
+    at: usize,
+) -> usize
+    ensures { Placed (any_corner_fits source.entry (widths_in source.entry widths) place.0 side at (length out.old)) out.old out.new at (shared_rows out.old side (10 + widths.n) at ++ vertex_at (numbers_of source.entry (held_ranges ranges.now)) (width_in source.entry widths.coord) (width_in source.entry widths.comp) widths.n place.0) result }
+{
+    let widths = widths.widths_in(source);
+    if !widths.fair(source) {
+        return at;
+    }
+    match source {
+        Source::Bits(_) => {
+            let input = widths.input(source);
+            Decoded {
+                input: &input,
+                ranges,
+            }
+            .place_corner(place, side, out, at)
+        }
+        Source::List(values) => {
+            let p = place.0;
+            let size = 2 + widths.n;
+            if !has_room(p, size, values.len()) {
+                return at;
+            }
+            let input = widths.input(Source::List(&values[p..p + size]));
+            Decoded {
+                input: &input,
+                ranges,
+            }
+            .place_corner(Place(0), side, out, at)
         }
     }
 }

@@ -14,7 +14,7 @@ mod numbers;
 mod ranges;
 mod writing;
 
-pub use any::{Widths, fill_ranges, flag_at, place_points};
+pub use any::{Widths, fill_ranges, flag_at, place_colours, place_corner, place_points};
 pub use copying::copy_point;
 
 // Which bits of a flag count. A reader of bytes chooses once; the flags of a list are whole numbers.

@@ -6,7 +6,8 @@ use Rattle.rows.specs.declared.Source.{Source}
 use Rattle.rows.specs.declared.Source.TheVariants.{Bits, List as Listed}
 use Rattle.rows.specs.declared.Input.{Input}
 use Rattle.rows.specs.declared.any.Widths.{Widths}
-use Rattle.rows.specs.Inner.Sources.{places}
+use Rattle.rows.specs.Inner.Sources.{places, width_in}
+use Rattle.rows.specs.Inner.Placing.{rows_fit}
 
 -- a reader accepts so many bytes; in a list, of any length, each number takes one place
 abbrev pub taken_by : Widths → Source → Bool
@@ -21,6 +22,20 @@ fair S w = leb w.n most_components && (readable w.coord && (readable w.comp && t
 unfoldable pub any_points_fit : Source → Widths → ℕ → ℕ → ℕ → ℕ → Bool
 any_points_fit S w k p at room =
     fair S w && (leb k 16 && (leb (p + k * (2 * w.coord)) (places S) && leb (at + 2 * k) room))
+
+-- the same of k colours and their rows
+unfoldable pub any_colours_fit : Source → Widths → ℕ → ℕ → ℕ → ℕ → Bool
+any_colours_fit S w k p at room =
+    fair S w && (leb k 4 && (leb (p + k * (w.n * w.comp)) (places S) && leb (at + k * (8 + w.n)) room))
+
+-- and of a vertex with the side by which it is joined
+unfoldable pub any_corner_fits : Source → Widths → ℕ → ℕ → ℕ → ℕ → Bool
+any_corner_fits S w p side at room =
+    fair S w && (rows_fit (10 + w.n) side at room && leb (p + (2 * w.coord + w.n * w.comp)) (places S))
+
+-- the widths of a source, in which a list's numbers take one place each
+abbrev pub widths_in : Source → Widths → Widths
+widths_in S w = record { flag = w.flag; coord = width_in S w.coord; comp = width_in S w.comp; n = w.n }
 
 -- ---- the input that the numbers are placed from
 
