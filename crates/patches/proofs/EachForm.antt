@@ -9,7 +9,7 @@ use lib.ListN.{length}
 use Rattle.std.specs.Prelude.{Some, None}
 use Rattle.lists.specs.Lists.{All}
 use Rattle.records.specs.declared.shape.Shape.{Shape}
-use Rattle.records.specs.Following.{Following, follows, ends}
+use Rattle.records.specs.Following.{follows, ends}
 use Rattle.records.specs.Format.{Meaning, points_after, colours_after, patch_shape, shape_of, format_by}
 use Rattle.rules.specs.Inner.Sides.{Fits}
 use Rattle.rules.proofs.RawReading.{patch_format}

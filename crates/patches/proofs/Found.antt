@@ -12,7 +12,7 @@ use Rattle.rows.specs.Inner.Sources.{masked, flag_at}
 use Rattle.rows.proofs.Callers.{flag_there}
 use Rattle.patches.specs.declared.finding.Records.{Records}
 use Rattle.patches.specs.Inner.Forms.{own_of}
-use Rattle.patches.specs.Inner.Records.{size_of, flag_meant, most_after, record_at, found_at}
+use Rattle.patches.specs.Inner.Records.{size_of, flag_meant, most_after, found_at}
 use Rattle.patches.proofs.EachForm.{Follows}
 
 pub joined_size : (m : Records) (f : ℕ) → 1 ≤ f

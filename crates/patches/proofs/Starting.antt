@@ -1,6 +1,6 @@
 -- A call that got past its tests has the outcome of its mesh. Assumes nothing.
-use Prim.Native.Nat.{ℕ, ◌+◌, ◌^◌, ◌≤◌, ◌<◌}
-use mathlib.Core.Path.{◌≡◌, refl, sym, ap, ap₂, ◌∙◌}
+use Prim.Native.Nat.{ℕ, ◌^◌, ◌≤◌, ◌<◌}
+use mathlib.Core.Path.{◌≡◌, sym, ap, ap₂, ◌∙◌}
 use mathlib.Core.Bool.{true}
 use mathlib.Core.List.{List}
 use native.Mathlib.Omega.{arith}
@@ -8,7 +8,6 @@ use lib.ListN.{length}
 use lib.Ieee.{Float}
 use Rattle.std.specs.Prelude.{Some}
 use Rattle.std.specs.Borrow.{Bor}
-use Rattle.lists.specs.Lists.{All}
 use Rattle.answers.specs.Limits.{most_components, most_bytes, most_numbers}
 use Rattle.decode.specs.Decode.{ranges}
 use Rattle.records.specs.Format.{Meaning, whole_number, two_low_bits}

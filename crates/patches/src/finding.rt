@@ -37,7 +37,8 @@ impl<'a> Records<'a> {
         }
     }
 
-    // The complete record at a place, once a patch came before it or not: its flag, and the place after it. None where the mesh ends.
+    // The complete record at a place, once a patch came before it or not: its flag, and the place after it. None where the mesh ends. It is put into
+    // both walks, since a pair in an Option would go through memory.
     #[inline(always)]
     pub fn find(&self, started: bool, place: Place) -> Option<(u32, Place)>
         requires { place.0 ≤ self.now.limit }

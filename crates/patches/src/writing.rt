@@ -1,16 +1,13 @@
 // The patches, written one after the other: counted first, then each number decoded once, straight into the output. The side that a patch takes
 // over is copied from the patch before, which stands right before it.
-ghost use Rattle.std.specs.Prelude.{◌≡◌, ◌++◌, ◌+◌, ◌-◌, ◌*◌, ◌<◌, ◌≤◌, length};
-ghost use Rattle.std.proofs.Math.Option.{some};
+ghost use Rattle.std.specs.Prelude.{◌≡◌, ◌+◌, ◌-◌, ◌*◌, ◌<◌, ◌≤◌, length};
 ghost use Rattle.lists.specs.Lists.{AllBelow, flat};
 ghost use Rattle.lists.specs.Writing.{Written};
 ghost use Rattle.answers.specs.Outcome.{Done};
 ghost use Rattle.decode.specs.Decode.{Ranges};
 ghost use Rattle.rows.specs.Inner.Sources.{held_ranges, range_list};
-ghost use Rattle.rules.specs.Inner.Sides.{Fits};
 ghost use Rattle.meshes.specs.Outcomes.{fitted_mesh};
-ghost use Rattle.patches.specs.Inner.Forms.{own_of, places_of};
-ghost use Rattle.patches.specs.Inner.Records.{size_of, points_from, colours_from, patch_size, point_in, colour_in, with_side, row_at, finished_of};
+ghost use Rattle.patches.specs.Inner.Records.{patch_size, point_in, colour_in, finished_of};
 
 use crate::finding::Records;
 use crate::forms::Side;
@@ -20,9 +17,9 @@ use rows::{Decoded, Layout, Place};
 
 // The records with Decode's ranges: what their patches are made of.
 #[derive(Clone, Copy)]
-struct Patches<'a> {
-    records: &'a Records<'a>,
-    ranges: &'a [Range; 34],
+pub struct Patches<'a> {
+    pub records: &'a Records<'a>,
+    pub ranges: &'a [Range; 34],
 }
 
 // ---- the side of the patch before
@@ -79,44 +76,49 @@ impl Side {
 // ---- a patch
 
 impl Patches<'_> {
+    ghost use Rattle.patches.specs.Inner.Records.{size_of, row_in};
+
     // A patch joined to no other: all its points and colours follow its flag.
-    fn write_first(self, from: Place, out: &mut [f64], at: usize) -> usize
-        requires there { from.0 + ((4 + own_of self.records.now.form) * (2 * self.records.now.input.layout.coord) + 4 * (self.records.now.input.layout.n * self.records.now.input.layout.comp)) ≤ self.records.now.limit }
+    fn write_first(self, place: Place, out: &mut [f64], at: usize) -> usize
+        requires there { place.0 + size_of self.records.now 0 ≤ self.records.now.limit }
         requires room { at + patch_size self.records.now ≤ length out.old }
-        ensures value { result ≡ at + patch_size self.entry.records.now }
-        ensures written { Written out.old out.new at (points_from self.entry.records.now (held_ranges self.entry.ranges.now) (4 + own_of self.entry.records.now.form) from.0 ++ colours_from self.entry.records.now (held_ranges self.entry.ranges.now) 4 (from.0 + (4 + own_of self.entry.records.now.form) * (2 * self.entry.records.now.input.layout.coord))) result }
+        ensures { Written out.old out.new at (row_in self.entry out.old at 0 place.0) result }
     {
+        let layout = self.records.input.layout;
         let decoded = Decoded {
             input: &self.records.input,
             ranges: self.ranges,
         };
-        let points = 4 + self.records.form.own_points();
-        let rest = Place(from.0 + points * (2 * self.records.input.layout.coord));
-        let p = decoded.place_points(points, from, out, at);
-        decoded.place_colours(4, rest, out, p)
+        let count = 4 + self.records.form.own_points();
+        let points = Place(place.0 + layout.flag);
+        let colours = Place(points.0 + count * (2 * layout.coord));
+        let p = decoded.place_points(count, points, out, at);
+        decoded.place_colours(4, colours, out, p)
     }
 
-    // A patch joined to the one that ends at at.
-    fn write_next(self, side: &Side, from: Place, out: &mut [f64], at: usize) -> usize
-        requires fits { Fits (4 + own_of self.records.now.form) (places_of side.now) }
-        requires there { from.0 + (own_of self.records.now.form * (2 * self.records.now.input.layout.coord) + 2 * (self.records.now.input.layout.n * self.records.now.input.layout.comp)) ≤ self.records.now.limit }
+    // A patch joined to the one that ends at index at.
+    fn write_next(self, flag: u32, place: Place, out: &mut [f64], at: usize) -> usize
+        requires joined { 1 ≤ flag }
+        requires few { flag ≤ 3 }
+        requires there { place.0 + size_of self.records.now flag ≤ self.records.now.limit }
         requires before { patch_size self.records.now ≤ at }
         requires room { at + patch_size self.records.now ≤ length out.old }
-        ensures value { result ≡ at + patch_size self.entry.records.now }
-        ensures written { Written out.old out.new at (with_side self.entry.records.now out.old (at - patch_size self.entry.records.now) (some (places_of side.now)) (points_from self.entry.records.now (held_ranges self.entry.ranges.now) (own_of self.entry.records.now.form) from.0) (colours_from self.entry.records.now (held_ranges self.entry.ranges.now) 2 (from.0 + own_of self.entry.records.now.form * (2 * self.entry.records.now.input.layout.coord)))) result }
+        ensures { Written out.old out.new at (row_in self.entry out.old at flag place.0) result }
     {
+        let layout = self.records.input.layout;
         let decoded = Decoded {
             input: &self.records.input,
             ranges: self.ranges,
         };
-        let layout = self.records.input.layout;
         let own = self.records.form.own_points();
+        let points = Place(place.0 + layout.flag);
+        let colours = Place(points.0 + own * (2 * layout.coord));
+        let side = self.records.form.side(flag);
         let start = at - self.records.patch_size();
-        let rest = Place(from.0 + own * (2 * layout.coord));
         let p = side.copy_points(out, start, at);
-        let q = decoded.place_points(own, from, out, p);
+        let q = decoded.place_points(own, points, out, p);
         let r = side.copy_colours(layout, out, start + (4 + own) * 2, q);
-        decoded.place_colours(2, rest, out, r)
+        decoded.place_colours(2, colours, out, r)
     }
 
     // The patch of the record at a place.
@@ -125,14 +127,13 @@ impl Patches<'_> {
         requires there { place.0 + size_of self.records.now flag ≤ self.records.now.limit }
         requires before { 1 ≤ flag → patch_size self.records.now ≤ at }
         requires room { at + patch_size self.records.now ≤ length out.old }
-        ensures { Written out.old out.new at (row_at self.entry.records.now (held_ranges self.entry.ranges.now) out.old (at - patch_size self.entry.records.now) flag place.0) result }
+        ensures { Written out.old out.new at (row_in self.entry out.old at flag place.0) result }
     {
-        let from = Place(place.0 + self.records.input.layout.flag);
         if flag == 0 {
-            return self.write_first(from, out, at);
+            self.write_first(place, out, at)
+        } else {
+            self.write_next(flag, place, out, at)
         }
-        let side = self.records.form.side(flag);
-        self.write_next(side, from, out, at)
     }
 
     fn write_patches(self, out: &mut [f64]) -> usize

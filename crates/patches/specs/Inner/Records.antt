@@ -1,5 +1,5 @@
 -- Records one after the other, in bits or in a list of numbers, and their patches in the output.
-use Rattle.std.specs.Prelude.{ℕ, zero, suc, ◌+◌, ◌*◌, Bool, cond, List, [], ◌++◌, leb, Float, Some, None}
+use Rattle.std.specs.Prelude.{ℕ, zero, suc, ◌+◌, ◌-◌, ◌*◌, Bool, cond, List, [], ◌++◌, leb, Float, Some, None}
 use Rattle.std.specs.Prelude as prelude
 use Rattle.std.proofs.Math.Option.{Option, none, some}
 use Rattle.std.proofs.Math.ListN.{get_elem?}
@@ -12,12 +12,13 @@ use Rattle.rows.specs.declared.Source.{Source}
 use Rattle.rows.specs.declared.Source.TheVariants.{Bits, List as Listed}
 use Rattle.rows.specs.declared.Place.{Place}
 use Rattle.rows.specs.declared.Layout.{Layout}
-use Rattle.rows.specs.Inner.Sources.{numbers_of, masked, flag_in}
-use Rattle.rules.specs.Patches.{Places, Table}
+use Rattle.rows.specs.Inner.Sources.{numbers_of, masked, flag_in, held_ranges}
+use Rattle.rules.specs.Patches.{Places}
 use Rattle.rules.specs.Meshes.{Finished, patch_mesh}
 use Rattle.meshes.specs.Decoded.{by_decode, as_listed}
 use Rattle.patches.specs.declared.forms.Form.{Form}
 use Rattle.patches.specs.declared.finding.Records.{Records}
+use Rattle.patches.specs.declared.writing.Patches.{Patches}
 use Rattle.patches.specs.Inner.Forms.{kind_of, own_of, table_of}
 
 -- ---- a record
@@ -88,6 +89,10 @@ row_at m R o start f p =
     let L : Layout = m.input.layout in
     with_side_of m o start f (points_from m R (points_after own f) (p + L.flag))
     (colours_from m R (colours_after f) (p + L.flag + points_after own f * (2 * L.coord)))
+
+-- the same, as a patch right before index at
+abbrev pub row_in : Patches → List Float → ℕ → ℕ → ℕ → List Float
+row_in p o at f place = row_at p.records.now (held_ranges p.ranges.now) o (at - patch_size p.records.now) f place
 
 -- ---- the mesh
 

@@ -1,9 +1,6 @@
 -- `find` meets its contract: each test that it makes is one that the definition makes. Assumes nothing.
-use mathlib.Core.Path.{◌≡◌, sym, ◌∙◌}
+use mathlib.Core.Path.{sym, ◌∙◌}
 use native.Mathlib.Omega.{arith}
-use Rattle.std.specs.Prelude.{Some, None}
-use Rattle.records.specs.Format.{shape_of}
-use Rattle.patches.specs.Inner.Forms.{kind_of}
 use Rattle.patches.proofs.EachForm.{form_follows, form_ends}
 use Rattle.patches.proofs.Found.{flag_read, found_nothing, found_over, found_cut, found_record}
 use Rattle.patches.proofs.finding.Records.find.Goals as goal

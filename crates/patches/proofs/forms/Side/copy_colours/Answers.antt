@@ -1,7 +1,7 @@
 -- `copy_colours` meets its contract: what was copied stands after the patch before, which stays as it was. Assumes nothing.
 use Prim.Native.Nat.{◌<◌}
 use native.Mathlib.Omega.{arith}
-use lib.ListN.{length, get_or}
+use lib.ListN.{length}
 use Rattle.lists.specs.Lists.{flat}
 use Rattle.lists.proofs.Writing.{written_none}
 use Rattle.patches.proofs.Copying.{below_at, colour_then}
