@@ -1,6 +1,6 @@
 -- `rows::Decoded::read_components` meets its contract: after each turn two components more stand in `out` from `at`. Of an odd count the last is left.
 -- Assumes nothing.
-use Rattle.std.proofs.Common.{arith, ◌≡◌, ℕ, ◌+◌, ◌*◌}
+use Rattle.std.proofs.Common.{arith, ℕ, ◌+◌, ◌*◌}
 use Rattle.lists.proofs.Writing.{written_store, written_store_two}
 use Rattle.colour.specs.Inner.Places.{bit_numbers, components_at}
 use Rattle.rows.specs.Inner.Sources.{held_ranges}

@@ -1,6 +1,6 @@
 -- `rows::writing::copy_part` meets its contract: after each turn two numbers more stand in `out` from `at`; what is read stands before that, as it was.
 -- Of an odd count the last is left. Assumes nothing.
-use Rattle.std.proofs.Common.{◌+◌, ◌-◌, ◌≤◌, length}
+use Rattle.std.proofs.Common.{◌+◌, ◌-◌, ◌≤◌}
 use Rattle.std.specs.Float.{nan}
 use Rattle.lists.specs.Lists.{part}
 use Rattle.lists.specs.Writing.{Written}
