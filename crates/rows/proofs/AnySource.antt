@@ -33,12 +33,15 @@ leb_iff a b = (leb-true a b, le-leb a b)
 eqb_iff : (a b : ℕ) → (eqb a b ≡ true) ↔ (a ≡ b)
 eqb_iff a b = (eqb-true a b, eq-eqb a b)
 
-pub placed_alike : {ok ok' : Bool} {entry exit xs xs' : List Float} {at next : ℕ} → Placed ok entry exit at xs next → ok' ≡ ok → xs' ≡ xs → Placed ok' entry exit at xs' next
+pub placed_alike : {ok ok' : Bool} {entry exit xs xs' : List Float} {at next : ℕ} → Placed ok entry exit at xs next → ok' ≡ ok → xs' ≡ xs
+    → Placed ok' entry exit at xs' next
 placed_alike w e f = rw (e, f) w
 
 -- ---- a part of a list
 
-part_same : (l m : List Float) (p q n : ℕ) → ((j : ℕ) → j < n → get_or l (p + j) nan ≡ get_or m (q + j) nan) → part nan l p n ≡ part nan m q n
+part_same : (l m : List Float) (p q n : ℕ)
+    → ((j : ℕ) → j < n → get_or l (p + j) nan ≡ get_or m (q + j) nan)
+    → part nan l p n ≡ part nan m q n
 unfolding part
 part_same l m p q n h = joined_same n _ _ (λ j b. ap (λ (x : Float). x ∷ []) (h j b))
 
@@ -56,10 +59,15 @@ module _ (l : List Float) (from size : ℕ) where
 module _ (l : List Float) (from size : ℕ) where
   pub point_of_part : 2 ≤ size → point_at (list_numbers l) 1 from ≡ point_at (list_numbers (part nan l from size)) 1 0
   point_of_part h =
-      rw (point_of_list l from, point_of_list (part nan l from size) 0, part_element l from size 0 from (omega arith) (omega arith), part_element l from size (0 + 1) (from + 1) (omega arith) (omega arith))
+      let first = part_element l from size 0 from (omega arith) (omega arith) in
+      let second = part_element l from size (0 + 1) (from + 1) (omega arith) (omega arith) in
+      rw (point_of_list l from, point_of_list (part nan l from size) 0, first, second)
 
-  pub components_of_part : (n q i : ℕ) → i + n ≤ size → from + i ≡ q → components_at (list_numbers l) 1 n q ≡ components_at (list_numbers (part nan l from size)) 1 n i
-  components_of_part n q i h e = rw (components_of_list l n q, components_of_list (part nan l from size) n i) (sym (part_inside l from size i q n h e))
+  pub components_of_part : (n q i : ℕ) → i + n ≤ size → from + i ≡ q
+      → components_at (list_numbers l) 1 n q ≡ components_at (list_numbers (part nan l from size)) 1 n i
+  components_of_part n q i h e =
+      rw (components_of_list l n q, components_of_list (part nan l from size) n i)
+      (sym (part_inside l from size i q n h e))
 
 -- ---- the input
 
@@ -79,6 +87,12 @@ pub taken_widths : (S : Source) (w : Widths) → taken_by w S ≡ true → w.coo
 taken_widths (Bits s) w h = (refl, refl)
 taken_widths (Listed vs) w h = singles w h
 
+-- in a list
+listed : (vs : Bor (List Float)) (w : Widths) → fair (Listed vs) w ≡ true → w.coord ≡ 1 × w.comp ≡ 1
+listed vs w h =
+    let f = fair_widths (Listed vs) w h in
+    taken_widths (Listed vs) w f.1.1.1
+
 -- ---- points
 
 module _ (S : Source) (w : Widths) (k p at room : ℕ) where
@@ -94,12 +108,7 @@ module _ (S : Source) (w : Widths) (k p at room : ℕ) where
   unfolding any_points_fit points_fit
   points_fit_alike I h same = rw (h, same.source_is, same.coord_is)
 
--- in a list, of which the part that is taken is lent
-listed : (vs : Bor (List Float)) (w : Widths) → fair (Listed vs) w ≡ true → w.coord ≡ 1 × w.comp ≡ 1
-listed vs w h =
-    let f = fair_widths (Listed vs) w h in
-    taken_widths (Listed vs) w f.1.1.1
-
+-- of a list the part that is taken is lent
 module _ (vs : Bor (List Float)) (w : Widths) (fair_is : fair (Listed vs) w ≡ true) (k p at room : ℕ) where
   pub list_points_missing : length vs.now < p + 2 * k → any_points_fit (Listed vs) w k p at room ≡ false
   unfolding any_points_fit
@@ -108,7 +117,8 @@ module _ (vs : Bor (List Float)) (w : Widths) (fair_is : fair (Listed vs) w ≡ 
       let far : length vs.now < p + k * (2 * w.coord) = rw one (omega arith) in
       simp (lt-leb (p + k * (2 * w.coord)) (length vs.now) far, and-false)
 
-  module _ (part_of : Bor (List Float)) (I : Input) (same : Holds (Listed part_of) w I) (there : p + 2 * k ≤ length vs.now) (is : part_of.now ≡ part nan vs.now p (2 * k)) where
+  module _ (part_of : Bor (List Float)) (I : Input) (same : Holds (Listed part_of) w I)
+      (there : p + 2 * k ≤ length vs.now) (is : part_of.now ≡ part nan vs.now p (2 * k)) where
     pub list_points_fit : any_points_fit (Listed vs) w k p at room ≡ points_fit I k 0 at room
     unfolding any_points_fit points_fit
     list_points_fit =
@@ -153,7 +163,8 @@ module _ (vs : Bor (List Float)) (w : Widths) (fair_is : fair (Listed vs) w ≡ 
       let far : length vs.now < p + k * (w.n * w.comp) = rw (one, mul-one w.n) h in
       simp (lt-leb (p + k * (w.n * w.comp)) (length vs.now) far, and-false)
 
-  module _ (part_of : Bor (List Float)) (I : Input) (same : Holds (Listed part_of) w I) (there : p + k * w.n ≤ length vs.now) (is : part_of.now ≡ part nan vs.now p (k * w.n)) where
+  module _ (part_of : Bor (List Float)) (I : Input) (same : Holds (Listed part_of) w I)
+      (there : p + k * w.n ≤ length vs.now) (is : part_of.now ≡ part nan vs.now p (k * w.n)) where
     pub list_colours_fit : any_colours_fit (Listed vs) w k p at room ≡ colours_fit I k 0 at room
     unfolding any_colours_fit colours_fit
     list_colours_fit =
@@ -162,7 +173,8 @@ module _ (vs : Bor (List Float)) (w : Widths) (fair_is : fair (Listed vs) w ≡ 
         let lent : 0 + k * w.n ≤ length part_of.now = rw is (omega arith) in
         rw (fair_is, same.source_is, same.comp_is, same.n_is, one, mul-one w.n, le-leb _ _ there, le-leb _ _ lent)
 
-    pub list_colours : (R : Ranges) → colours_at (numbers_of (Listed vs) R) w.comp w.n k p ≡ colours_at (numbers_of I.source R) I.layout.comp I.layout.n k 0
+    pub list_colours : (R : Ranges) → colours_at (numbers_of (Listed vs) R) w.comp w.n k p
+        ≡ colours_at (numbers_of I.source R) I.layout.comp I.layout.n k 0
     unfolding numbers_of colours_at
     list_colours R =
         let one = (listed vs w fair_is).1 in
@@ -191,7 +203,8 @@ module _ (vs : Bor (List Float)) (w : Widths) (fair_is : fair (Listed vs) w ≡ 
       let far : length vs.now < p + (2 * w.coord + w.n * w.comp) = rw (one.0, one.1, mul-one w.n) h in
       simp (lt-leb (p + (2 * w.coord + w.n * w.comp)) (length vs.now) far, and-false)
 
-  module _ (part_of : Bor (List Float)) (I : Input) (same : Holds (Listed part_of) w I) (there : p + (2 + w.n) ≤ length vs.now) (is : part_of.now ≡ part nan vs.now p (2 + w.n)) where
+  module _ (part_of : Bor (List Float)) (I : Input) (same : Holds (Listed part_of) w I)
+      (there : p + (2 + w.n) ≤ length vs.now) (is : part_of.now ≡ part nan vs.now p (2 + w.n)) where
     pub list_corner_fits : any_corner_fits (Listed vs) w p side at room ≡ corner_fits I 0 side at room
     unfolding any_corner_fits
     list_corner_fits =
@@ -200,7 +213,8 @@ module _ (vs : Bor (List Float)) (w : Widths) (fair_is : fair (Listed vs) w ≡ 
         let lent : 0 + (2 + w.n) ≤ length part_of.now = rw is (omega arith) in
         rw (fair_is, same.source_is, same.coord_is, same.comp_is, same.n_is, one.0, one.1, mul-one w.n, le-leb _ _ there, le-leb _ _ lent)
 
-    pub list_vertex : (R : Ranges) → vertex_at (numbers_of (Listed vs) R) 1 1 w.n p ≡ vertex_at (numbers_of I.source R) I.layout.coord I.layout.comp I.layout.n 0
+    pub list_vertex : (R : Ranges) → vertex_at (numbers_of (Listed vs) R) 1 1 w.n p
+        ≡ vertex_at (numbers_of I.source R) I.layout.coord I.layout.comp I.layout.n 0
     unfolding numbers_of vertex_at
     list_vertex R =
         let one = listed vs w fair_is in

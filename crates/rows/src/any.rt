@@ -1,4 +1,4 @@
-// The promises that docs/PROMISES.md names hold for any values: these functions take any source, widths and place, and test themselves what `Input` holds.
+// What docs/PROMISES.md promises of these functions holds for any values: they take any source, widths and place, and test what `Input` holds.
 ghost use Rattle.std.specs.Prelude.{◌≡◌, true, ◌+◌, ◌++◌, length};
 ghost use Rattle.lists.specs.Writing.{Placed};
 ghost use Rattle.colour.specs.Inner.Places.{points_at, colours_at, vertex_at};
@@ -180,7 +180,7 @@ pub fn place_colours(
     }
 }
 
-// The row of the vertex whose coordinates begin at a place, and before it the two rows of the side by which it is joined: see `Decoded::place_corner`.
+// The row of the vertex whose coordinates begin at a place, and before it the rows of the side by which it is joined, as of `Decoded`.
 pub fn place_corner(
     source: Source,
     widths: Widths,

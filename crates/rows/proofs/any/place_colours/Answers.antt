@@ -1,4 +1,5 @@
--- `rows::any::place_colours` meets its contract: the tests say what an input needs, and what of a list is lent to it has the same colours. Assumes nothing.
+-- `rows::any::place_colours` meets its contract: the tests say what an input needs, and the part of a list that is lent to it has the same
+-- colours. Assumes nothing.
 use Rattle.std.proofs.Common.{arith, sym, ◌∙◌, length, refl, ◌*◌}
 use Rattle.std.specs.Float.{nan}
 use borrow.Author.Tests.{leb-true, leb-false}

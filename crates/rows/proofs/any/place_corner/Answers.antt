@@ -1,4 +1,5 @@
--- `rows::any::place_corner` meets its contract: the tests say what an input needs, and what of a list is lent to it has the same vertex. Assumes nothing.
+-- `rows::any::place_corner` meets its contract: the tests say what an input needs, and the part of a list that is lent to it has the same
+-- vertex. Assumes nothing.
 use Rattle.std.proofs.Common.{arith, sym, ap₂, ◌∙◌, length, refl, ℕ, ◌+◌, List, ◌++◌}
 use Rattle.std.specs.Float.{nan}
 use lib.Ieee.{Float}

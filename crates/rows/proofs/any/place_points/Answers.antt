@@ -1,4 +1,5 @@
--- `rows::any::place_points` meets its contract: the tests say what an input needs, and what of a list is lent to it has the same points. Assumes nothing.
+-- `rows::any::place_points` meets its contract: the tests say what an input needs, and the part of a list that is lent to it has the same
+-- points. Assumes nothing.
 use Rattle.std.proofs.Common.{sym, ◌∙◌, length, refl, ◌*◌}
 use Rattle.std.specs.Float.{nan}
 use borrow.Author.Tests.{leb-true, leb-false}
