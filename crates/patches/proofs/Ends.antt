@@ -19,7 +19,7 @@ use Rattle.rules.specs.Meshes.{Finished}
 use Rattle.meshes.specs.Outcomes.{fitted_mesh}
 use Rattle.patches.specs.declared.forms.Form.{Form}
 use Rattle.patches.specs.declared.finding.Records.{Records}
-use Rattle.patches.specs.Inner.Records.{patch_size, finished_in, finished_of}
+use Rattle.patches.specs.Inner.Records.{patch_size, finished_in, finished_of, decoded_of}
 use Rattle.patches.proofs.Walk.{finished_length}
 
 -- the numbers of a list need no ranges
@@ -34,17 +34,15 @@ module _ (m : Records) {c : ℕ} (counted : (R : Ranges) → c ≡ (finished_of 
   room_for_patches R h = rw (finished_length m R, ← counted R) h
 
   module _ (dec entry : List Float) where
-    abbrev decoded : Finished Float
-    decoded = finished_of m (held_ranges (range_list dec m.input.layout.coord m.input.layout.comp))
-
-    pub no_room_for_patches : length entry < c * patch_size m → Done (fitted_mesh decoded (length entry)) entry (Err (Room (c * patch_size m))) entry
-    no_room_for_patches = no_room_for decoded.count decoded.numbers (patch_size m) (finished_length m _) (counted _)
+    pub no_room_for_patches : length entry < c * patch_size m
+        → Done (fitted_mesh (decoded_of m dec) (length entry)) entry (Err (Room (c * patch_size m))) entry
+    no_room_for_patches = no_room_for (decoded_of m dec).count (decoded_of m dec).numbers (patch_size m) (finished_length m _) (counted _)
 
     pub patches_written : (held before : List Range) {exit : List Float} {p : ℕ}
         → held ≡ filled_ranges m.input.source (range_list dec m.input.layout.coord m.input.layout.comp) before
-        → Written entry exit 0 (finished_of m (held_ranges held)).numbers p → Done (fitted_mesh decoded (length entry)) entry (Ok c) exit
+        → Written entry exit 0 (finished_of m (held_ranges held)).numbers p → Done (fitted_mesh (decoded_of m dec) (length entry)) entry (Ok c) exit
     patches_written held before {exit} {p} filled w =
-        let same : finished_of m (held_ranges held) ≡ decoded =
+        let same : finished_of m (held_ranges held) ≡ decoded_of m dec =
         ap (λ (l : List Range). finished_of m (held_ranges l)) filled
         ∙ finished_alike m.input.source m.input.layout m.mask m.form _ before in
         all_written (counted _) (subst (λ (F : Finished Float). Written entry exit 0 F.numbers p) same w)

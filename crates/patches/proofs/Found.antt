@@ -36,8 +36,9 @@ both_end false = refl
 pub flag_read : (m : Records) (pos : ℕ) {f : ℕ} → pos + m.input.layout.flag ≤ m.limit → f ≡ flag_at m.input.source m.input.layout.flag pos
     → masked m.mask f ≡ flag_meant m pos
 flag_read m pos h e =
+    let L = m.input.layout in
     ap (masked m.mask) e
-    ∙ flag_there m.input.source m.mask m.input.layout.flag pos m.mask_there m.flagged m.input.layout.flag_few m.input.short (omega (arith, m.all_places))
+    ∙ flag_there m.input.source m.mask L.flag pos m.mask_there m.flagged L.flag_few m.input.short (omega (arith, m.all_places))
 
 module _ (m : Records) (started : Bool) (pos : ℕ) where
   -- not even a flag
@@ -104,4 +105,5 @@ module _ (m : Records) (started : Bool) (pos : ℕ) where
   pub found_none : None ≡ found_at m started pos → flag_meant m pos ≤ most_after started → m.limit < pos + size_of m (flag_meant m pos)
   unfolding found_at
   found_none e h =
-      leb-false _ _ (end_tests (leb (flag_meant m pos) (most_after started)) (leb it.1.0 m.limit) it e (le-leb (flag_meant m pos) (most_after started) h))
+      let most : ℕ = most_after started in
+      leb-false _ _ (end_tests (leb (flag_meant m pos) most) (leb it.1.0 m.limit) it e (le-leb (flag_meant m pos) most h))

@@ -22,7 +22,8 @@ use Rattle.rules.proofs.Rows.{onto_row, length-patch_row}
 use Rattle.meshes.proofs.PatchRecords.{RowPiece, RowPatch, Brings, row_of}
 use Rattle.patches.specs.declared.finding.Records.{Records}
 use Rattle.patches.specs.Inner.Forms.{own_of, table_of}
-use Rattle.patches.specs.Inner.Records.{most_after, found_at, points_from, colours_from, patch_size, point_in, colour_in, side_points, side_colours, row_at}
+use Rattle.patches.specs.Inner.Records.{most_after, found_at, points_from, colours_from}
+use Rattle.patches.specs.Inner.Records.{patch_size, point_in, colour_in, side_points, side_colours, row_at}
 use Rattle.patches.proofs.EachForm.{three_sides, table_fits}
 use Rattle.patches.proofs.Found.{found_whole}
 use Rattle.patches.proofs.Records.{Promised, rest_more}
@@ -58,7 +59,8 @@ module _ {m : Records} {R : Ranges} (w : Promised m R) where
     pub filled : Filled m new
     pub row : (o : List Float) (start : ℕ) → Before (λ (p : RowPatch). PatchStands p o start) b → row_of new ≡ row_at m R o start f pos
 
-  pub next_patch : (b : Option RowPatch) → Before (Filled m) b → (pos f : ℕ) (next : Place) → Some (f, next) ≡ found_at m (there b) pos → Next b pos f next
+  pub next_patch : (b : Option RowPatch) → Before (Filled m) b → (pos f : ℕ) (next : Place) → Some (f, next) ≡ found_at m (there b) pos
+      → Next b pos f next
   next_patch b z pos f next e =
       let h = found_whole m (there b) pos f next e in
       let t = rest_more w b pos f next e in

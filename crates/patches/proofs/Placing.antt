@@ -21,7 +21,8 @@ module _ (m : Records) (R : Ranges) {l o : List Float} {at next : ℕ} (k p : �
   unfolding points_from
   points_placed w few there room = points_written m.input _ k p w few (omega (arith, m.all_places)) room
 
-  pub colours_placed : Placed (colours_fit m.input k p at (length l)) l o at (colours_at (numbers_of m.input.source R) m.input.layout.comp m.input.layout.n k p) next
+  pub colours_placed : Placed (colours_fit m.input k p at (length l)) l o at
+      (colours_at (numbers_of m.input.source R) m.input.layout.comp m.input.layout.n k p) next
       → k ≤ 4 → p + k * (m.input.layout.n * m.input.layout.comp) ≤ m.limit → at + k * (8 + m.input.layout.n) ≤ length l
       → (next ≡ at + k * (8 + m.input.layout.n)) × Written l o at (colours_from m R k p) next
   unfolding colours_from

@@ -29,18 +29,20 @@ use Rattle.patches.proofs.Found.{found_whole, found_none}
 -- what the mesh comes to is the mesh of its records
 abbrev pub Kept : Records → Ranges → Type 0
 Kept m R =
-    meshes.Records (table_of m.form) (own_of m.form) m.input.layout.flag m.input.layout.coord m.input.layout.comp m.input.layout.n m.limit (flag_meant m)
-    (numbers_of m.input.source R) (finished_of m R)
+    let L : Layout = m.input.layout in
+    meshes.Records (table_of m.form) (own_of m.form) L.flag L.coord L.comp L.n m.limit (flag_meant m) (numbers_of m.input.source R) (finished_of m R)
 
 pub record Promised (m : Records) (R : Ranges) : Type 0 where
   pub kept : Kept m R
 
 kept_of : (S : Source) (L : Layout) (mask : ℕ) (form : Form) {limit : ℕ} (R : Ranges) → 1 ≤ L.flag → L.flag ≡ width_in S L.flag
     → L.coord ≡ width_in S L.coord → L.comp ≡ width_in S L.comp → limit ≡ places S
-    → meshes.Records (table_of form) (own_of form) L.flag L.coord L.comp L.n limit (flag_in S L.flag mask) (numbers_of S R) (finished_in S L mask form R)
+    → meshes.Records (table_of form) (own_of form) L.flag L.coord L.comp L.n limit (flag_in S L.flag mask) (numbers_of S R)
+    (finished_in S L mask form R)
 unfolding flag_in numbers_of finished_in
 kept_of (Bits s) L mask form R h f c d e =
-    rw (e, format_is form (masked mask) L.flag L.coord L.comp L.n) (records_of_bytes (masked mask) (own_of form) L.flag L.coord L.comp L.n h s.now (table_of form) R)
+    rw (e, format_is form (masked mask) L.flag L.coord L.comp L.n)
+    (records_of_bytes (masked mask) (own_of form) L.flag L.coord L.comp L.n h s.now (table_of form) R)
 kept_of (Listed vs) L mask form R h f c d e = rw (e, f, c, d) (records_of_list vs.now (own_of form) L.n (table_of form) (three_sides form))
 
 pub promised : (m : Records) (R : Ranges) → Promised m R

@@ -9,7 +9,7 @@ use lib.Ieee.{Float}
 use Rattle.std.specs.Prelude.{Some}
 use Rattle.std.specs.Borrow.{Bor}
 use Rattle.answers.specs.Limits.{most_components, most_bytes, most_numbers}
-use Rattle.decode.specs.Decode.{ranges}
+use Rattle.decode.specs.Decode.{Ranges, ranges}
 use Rattle.records.specs.Format.{Meaning, whole_number, two_low_bits}
 use Rattle.records.specs.Layout.{layout_readable}
 use Rattle.rows.specs.declared.Source.{Source}
@@ -30,49 +30,48 @@ use Rattle.patches.specs.declared.forms.Form.{Form}
 use Rattle.patches.specs.declared.forms.Form.TheVariants.{Coons, Tensor, Grid}
 use Rattle.patches.specs.Inner.Forms.{kind_of, own_of, table_of, parsed_form, built_form}
 use Rattle.patches.specs.declared.finding.Records.{Records}
-use Rattle.patches.specs.Inner.Records.{finished_in}
+use Rattle.patches.specs.Inner.Records.{finished_in, decoded_in, decoded_of}
 use Rattle.patches.proofs.EachForm.{table_fits}
-
--- what the numbers of a source come to by Decode's entries
-abbrev mesh_in : Source → Layout → ℕ → Form → List Float → Finished Float
-mesh_in S L mask form entries = finished_in S L mask form (held_ranges (range_list entries L.coord L.comp))
-
-abbrev mesh_of : Records → List Float → Finished Float
-mesh_of m entries = mesh_in m.input.source m.input.layout m.mask m.form entries
 
 abbrev stream_of : Form → ℕ → Layout → List Float → Stream
 stream_of form mask L entries =
     record { kind = kind_of form; meaning = masked mask; flag = Some L.flag; coord = L.coord; comp = L.comp; entries = entries; n = L.n }
 
 -- the ranges of the list are Decode's, as far as a record has kinds
-same_ranges : (L : Layout) (mask : ℕ) (form : Form) (entries : List Float) → L.n ≤ most_components → (xs : List ℕ) → patch_mesh (table_of form) (own_of form) (by_decode (masked mask) (held_ranges (range_list entries L.coord L.comp))) L.n xs
-    ≡ patch_mesh (table_of form) (own_of form) (by_decode (masked mask) (ranges entries L.coord L.comp)) L.n xs
-same_ranges L mask form entries few xs =
-    patches_alike (masked mask) (held_ranges (range_list entries L.coord L.comp)) (ranges entries L.coord L.comp) L.n
-    (λ k h. held_ranges_lem entries L.coord L.comp k (omega arith)) (table_of form) (own_of form) (table_fits form) xs
+module _ (form : Form) (mask : ℕ) (L : Layout) (entries : List Float) (few : L.n ≤ most_components) where
+  abbrev mesh_by : Ranges → List ℕ → Finished Float
+  mesh_by R = patch_mesh (table_of form) (own_of form) (by_decode (masked mask) R) L.n
 
-module _ (m : Records) {I : Input} {mask : ℕ} {form : Form} (entries entry : List Float) (of_input : m.input ≡ I) (of_mask : m.mask ≡ mask) (of_form : m.form ≡ form)
-    (few : I.layout.n ≤ most_components) where
-  records_mesh : {S : Source} → I.source ≡ S → mesh_of m entries ≡ mesh_in S I.layout mask form entries
+  same_ranges : (xs : List ℕ) → mesh_by (held_ranges (range_list entries L.coord L.comp)) xs ≡ mesh_by (ranges entries L.coord L.comp) xs
+  same_ranges xs =
+      patches_alike (masked mask) (held_ranges (range_list entries L.coord L.comp)) (ranges entries L.coord L.comp) L.n
+      (λ k h. held_ranges_lem entries L.coord L.comp k (omega arith)) (table_of form) (own_of form) (table_fits form) xs
+
+module _ (m : Records) {I : Input} {mask : ℕ} {form : Form} (entries entry : List Float) (of_input : m.input ≡ I) (of_mask : m.mask ≡ mask)
+    (of_form : m.form ≡ form) (few : I.layout.n ≤ most_components) where
+  records_mesh : {S : Source} → I.source ≡ S → decoded_of m entries ≡ decoded_in S I.layout mask form entries
   records_mesh e =
-      ap (λ (J : Input). mesh_in J.source J.layout m.mask m.form entries) of_input
-      ∙ ap₂ (λ (k : ℕ) (f : Form). mesh_in I.source I.layout k f entries) of_mask of_form
-      ∙ ap (λ (S : Source). mesh_in S I.layout mask form entries) e
+      ap (λ (J : Input). decoded_in J.source J.layout m.mask m.form entries) of_input
+      ∙ ap₂ (λ (k : ℕ) (f : Form). decoded_in I.source I.layout k f entries) of_mask of_form
+      ∙ ap (λ (S : Source). decoded_in S I.layout mask form entries) e
 
   pub list_outcome : {vs : Bor (List Float)} → I.source ≡ Listed vs → length vs.now ≤ most_numbers
-      → fitted_mesh (mesh_of m entries) (length entry) ≡ built_form form vs.now I.layout.n (length entry)
+      → fitted_mesh (decoded_of m entries) (length entry) ≡ built_form form vs.now I.layout.n (length entry)
   unfolding finished_in
   list_outcome {vs} e short =
       ap (λ (M : Finished Float). fitted_mesh M (length entry)) (records_mesh e)
       ∙ sym (list_accepted (patch_mesh (table_of form) (own_of form)) I.layout.n vs.now entry few short)
 
-  pub bits_outcome : {s : Bor (List ℕ)} → I.source ≡ Bits s → layout_readable I.layout.coord I.layout.comp (Some I.layout.flag) (length entries) ≡ true
+  pub bits_outcome : {s : Bor (List ℕ)} → I.source ≡ Bits s
+      → layout_readable I.layout.coord I.layout.comp (Some I.layout.flag) (length entries) ≡ true
       → length s.now ≤ most_bytes
-      → fitted_mesh (mesh_of m entries) (length entry) ≡ parsed_form form (masked mask) s.now I.layout.coord I.layout.comp I.layout.flag entries I.layout.n (length entry)
+      → fitted_mesh (decoded_of m entries) (length entry)
+      ≡ parsed_form form (masked mask) s.now I.layout.coord I.layout.comp I.layout.flag entries I.layout.n (length entry)
   unfolding finished_in
   bits_outcome {s} e lay short =
-      ap (λ (M : Finished Float). fitted_mesh M (length entry)) (records_mesh e ∙ same_ranges I.layout mask form entries few (raw_of (stream_of form mask I.layout entries) s.now))
-      ∙ sym (accepted (stream_of form mask I.layout entries) (patch_mesh (table_of form) (own_of form)) s.now entry lay few short)
+      let stream = stream_of form mask I.layout entries in
+      ap (λ (M : Finished Float). fitted_mesh M (length entry)) (records_mesh e ∙ same_ranges form mask I.layout entries few (raw_of stream s.now))
+      ∙ sym (accepted stream (patch_mesh (table_of form) (own_of form)) s.now entry lay few short)
 
 -- ---- its reading
 
@@ -84,9 +83,11 @@ form_kept Grid = type7_kept list_sides
 module _ (form : Form) (s : List ℕ) (coord comp flag : ℕ) (entries : List Float) (n room : ℕ) where
   masked_outcome : (mask : ℕ) (meaning : Meaning) → ((x : ℕ) → x < 2 ^ 32 → masked mask x ≡ meaning x)
       → parsed_form form (masked mask) s coord comp flag entries n room ≡ parsed_form form meaning s coord comp flag entries n room
-  masked_outcome mask meaning h = word_outcome (kind_of form) coord comp flag entries n (patch_mesh (table_of form) (own_of form)) (form_kept form) (masked mask) meaning h s room
+  masked_outcome mask meaning h =
+      word_outcome (kind_of form) coord comp flag entries n (patch_mesh (table_of form) (own_of form)) (form_kept form) (masked mask) meaning h s room
 
-  pub whole_outcome : parsed_form form (masked 4294967295) s coord comp flag entries n room ≡ parsed_form form whole_number s coord comp flag entries n room
+  pub whole_outcome : parsed_form form (masked 4294967295) s coord comp flag entries n room
+      ≡ parsed_form form whole_number s coord comp flag entries n room
   whole_outcome = masked_outcome 4294967295 whole_number whole_masked
 
   pub low_outcome : parsed_form form (masked 3) s coord comp flag entries n room ≡ parsed_form form two_low_bits s coord comp flag entries n room

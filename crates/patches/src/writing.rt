@@ -5,9 +5,9 @@ ghost use Rattle.lists.specs.Lists.{AllBelow, flat};
 ghost use Rattle.lists.specs.Writing.{Written};
 ghost use Rattle.answers.specs.Outcome.{Done};
 ghost use Rattle.decode.specs.Decode.{Ranges};
-ghost use Rattle.rows.specs.Inner.Sources.{held_ranges, range_list};
+ghost use Rattle.rows.specs.Inner.Sources.{held_ranges};
 ghost use Rattle.meshes.specs.Outcomes.{fitted_mesh};
-ghost use Rattle.patches.specs.Inner.Records.{patch_size, point_in, colour_in, finished_of};
+ghost use Rattle.patches.specs.Inner.Records.{patch_size, point_in, colour_in, finished_of, decoded_of};
 
 use crate::finding::Records;
 use crate::forms::Side;
@@ -180,7 +180,7 @@ impl Records<'_> {
 
     // The patches, if there is room for them. Decode's ranges are worked out only then.
     pub fn patches(&self, decode: &[f64], out: &mut [f64]) -> Answer
-        ensures { Done (fitted_mesh (finished_of self.now (held_ranges (range_list decode.now self.now.input.layout.coord self.now.input.layout.comp))) (length out.old)) out.old result out.new }
+        ensures { Done (fitted_mesh (decoded_of self.now decode.now) (length out.old)) out.old result out.new }
     {
         let count = self.count_patches();
         let needed = count * self.patch_size();

@@ -16,7 +16,8 @@ returns-then-n-gt-MOST_COMPONENTS c =
 
 pub returns-then-data-gt-MOST_BYTES : goal.returns-then-data-gt-MOST_BYTES
 returns-then-data-gt-MOST_BYTES c =
-    too_long _ _ _ _ (sym c.mesh_layout_is_readable.ensures ∙ c.if-not-mesh_layout_is_readable.false) c.if-n-gt-MOST_COMPONENTS.false c.if-data-gt-MOST_BYTES.true
+    let readable = sym c.mesh_layout_is_readable.ensures ∙ c.if-not-mesh_layout_is_readable.false in
+    too_long _ _ _ _ readable c.if-n-gt-MOST_COMPONENTS.false c.if-data-gt-MOST_BYTES.true
 
 pub invariant_of-layout : goal.invariant_of-layout
 invariant_of-layout c =
@@ -38,7 +39,8 @@ new-requires-clause-flagged c =
 
 pub returns : goal.returns
 returns c =
+    let a = c.args in
     let n = c.new.ensures in
     let readable = sym c.mesh_layout_is_readable.ensures ∙ c.if-not-mesh_layout_is_readable.false in
-    rw (bits_outcome c.new.result c.args.decode.now c.args.out.now n.input n.mask n.form c.if-n-gt-MOST_COMPONENTS.false refl readable c.if-data-gt-MOST_BYTES.false) at
-    c.patches.ensures
+    let few = c.if-n-gt-MOST_COMPONENTS.false in
+    rw (bits_outcome c.new.result a.decode.now a.out.now n.input n.mask n.form few refl readable c.if-data-gt-MOST_BYTES.false) at c.patches.ensures

@@ -12,7 +12,7 @@ use Rattle.rows.specs.declared.Source.{Source}
 use Rattle.rows.specs.declared.Source.TheVariants.{Bits, List as Listed}
 use Rattle.rows.specs.declared.Place.{Place}
 use Rattle.rows.specs.declared.Layout.{Layout}
-use Rattle.rows.specs.Inner.Sources.{numbers_of, masked, flag_in, held_ranges}
+use Rattle.rows.specs.Inner.Sources.{numbers_of, masked, flag_in, range_list, held_ranges}
 use Rattle.rules.specs.Patches.{Places}
 use Rattle.rules.specs.Meshes.{Finished, patch_mesh}
 use Rattle.meshes.specs.Decoded.{by_decode, as_listed}
@@ -105,3 +105,10 @@ finished_in (Listed vs) L mask form R = patch_mesh (table_of form) (own_of form)
 
 abbrev pub finished_of : Records → Ranges → Finished Float
 finished_of m R = finished_in m.input.source m.input.layout m.mask m.form R
+
+-- the same by Decode's entries
+abbrev pub decoded_in : Source → Layout → ℕ → Form → List Float → Finished Float
+decoded_in S L mask form entries = finished_in S L mask form (held_ranges (range_list entries L.coord L.comp))
+
+abbrev pub decoded_of : Records → List Float → Finished Float
+decoded_of m entries = decoded_in m.input.source m.input.layout m.mask m.form entries

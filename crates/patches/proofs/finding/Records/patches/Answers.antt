@@ -5,7 +5,8 @@ use Rattle.patches.proofs.finding.Records.patches.Goals as goal
 pub returns-then-out-needed : goal.returns-then-out-needed
 returns-then-out-needed c =
     let a = c.args in
-    rw c.patch_size.ensures (no_room_for_patches a.self.now c.count_patches-count.ensures.value a.decode.now a.out.now (rw c.patch_size.ensures at c.if-out-needed.true))
+    let e = c.patch_size.ensures in
+    rw e (no_room_for_patches a.self.now c.count_patches-count.ensures.value a.decode.now a.out.now (rw e at c.if-out-needed.true))
 
 pub write_patches-requires : goal.write_patches-requires
 write_patches-requires c =

@@ -32,7 +32,8 @@ returns c =
     let ps = points_placed m _ _ _ c.place_points-q.ensures (omega arith) (rw e (omega arith)) (omega arith) in
     let cs = colours_placed m _ 2 _ c.place_colours.ensures (omega arith) (rw e (omega arith)) (omega (arith, ps.0)) in
     let w = written_then c.copy_points-p.ensures.written ps.1 in
-    let stay = colours_stay n (a.at - c.patch_size.result + (4 + c.own_points-own.result) * 2) c.side-side.result.now.colours fits.2 w (omega arith) in
+    let first = a.at - c.patch_size.result + (4 + c.own_points-own.result) * 2 in
+    let stay = colours_stay n first c.side-side.result.now.colours fits.2 w (omega arith) in
     let all = written_then w (written_then (rw stay at c.copy_colours-r.ensures.written) cs.1) in
     let next = row_next m (held_ranges a.self.ranges.now) a.out.now (a.at - patch_size m) a.place.0 a.flag _ c.requires.joined c.side-side.ensures in
     rw next at (rw (c.patch_size.ensures, e) at all)

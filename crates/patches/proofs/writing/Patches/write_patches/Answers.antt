@@ -1,5 +1,5 @@
--- `write_patches` meets its contract. The invariant: the last patch stands right before, and the mesh is what was written and what comes from here on.
--- The measure is what is left of the places. Assumes nothing.
+-- `write_patches` meets its contract. The invariant: the last patch stands right before, and the mesh is what was written and what comes from here
+-- on. The measure is what is left of the places. Assumes nothing.
 use native.Mathlib.Omega.{arith}
 use Rattle.patches.proofs.Walk.{walk_start, walk_flag, walk_joined, walk_room, walk_step, walk_end}
 use Rattle.patches.proofs.Found.{record_moves, found_whole}
@@ -28,7 +28,8 @@ loop-flag-smaller c =
 pub loop-flag-preserved : goal.loop-flag-preserved
 loop-flag-preserved c =
     let v = found_whole _ _ _ c.in-Some.flag c.in-Some.next c.in-Some.ensures in
-    record { within = v.within; walked = walk_step c.loop-flag.invariant.walked c.in-Some.flag c.in-Some.next c.in-Some.ensures c.write_patch-at.ensures }
+    let w = walk_step c.loop-flag.invariant.walked c.in-Some.flag c.in-Some.next c.in-Some.ensures c.write_patch-at.ensures in
+    record { within = v.within; walked = w }
 
 pub returns : goal.returns
 returns c = walk_end c.loop-flag.invariant.walked c.loop-flag.invariant.within c.in_default.ensures

@@ -1,5 +1,5 @@
--- `write_patches` meets its contract. The invariant: the last patch stands right before, and the mesh is what was written and what comes from here on.
--- The measure is what is left of the places. Assumes nothing.
+-- `write_patches` meets its contract. The invariant: the last patch stands right before, and the mesh is what was written and what comes from here
+-- on. The measure is what is left of the places. Assumes nothing.
 use Prim.Native.Nat.{◌-◌, ◌≤◌}
 use Rattle.rows.specs.Inner.Sources.{held_ranges}
 use Rattle.patches.proofs.Walk.{Walk}
