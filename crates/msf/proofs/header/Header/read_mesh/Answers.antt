@@ -1,14 +1,9 @@
 -- `msf::header::Header::read_mesh` meets its contract: the entries are handed to the reader as floats. Assumes nothing.
-use Prim.Native.Nat.{ℕ, ◌/◌, min}
-use mathlib.Core.Path.{◌≡◌, refl}
 use native.Mathlib.Omega.{arith}
-use lib.ListN.{length, take, replicate}
-use lib.Ieee.{Float, of_bits}
+use lib.ListN.{replicate}
+use lib.Ieee.{of_bits}
 use Rattle.answers.specs.Outcome.{Done}
 use Rattle.decode.specs.Floats.{float0}
-use Rattle.decode.specs.Stored.{floats_at}
-use Rattle.decode.specs.Inner.Reading.{with_floats}
-use Rattle.decode.proofs.BigEndian.{length_floats}
 use Rattle.msf.specs.Inner.Headers.{answer_to}
 use Rattle.msf.proofs.Headers.{floats_read}
 use Rattle.msf.proofs.Listings.{listable}

@@ -1,5 +1,5 @@
 -- `replay::replaying::Case::seen` meets its contract: the call finds the case's own numbers, and the output is filled. Assumes nothing.
-use Rattle.std.proofs.Common.{◌/◌, ◌≤◌, length, take, replicate, ◌∙◌, arith, length-take, length-drop}
+use Rattle.std.proofs.Common.{◌≤◌, length, take, replicate, ◌∙◌, arith, length-take, length-drop}
 use Rattle.std.specs.Prelude.{slice_range}
 use lib.Ieee.{of_bits, neg}
 use Rattle.decode.specs.Floats.{float0}
