@@ -11,10 +11,9 @@ use crate::{Decoded, Input, Layout, Place, Source, ranges};
 use bits::BitPos;
 use decode::Range;
 
-// How many places a flag, a coordinate and a component take, and how many components a colour has: any numbers.
+// How many places a coordinate and a component take, and how many components a colour has: any numbers.
 #[derive(Clone, Copy)]
 pub struct Widths {
-    pub flag: usize,
     pub coord: usize,
     pub comp: usize,
     pub n: usize,

@@ -35,7 +35,7 @@ any_corner_fits S w p side at room =
 
 -- the widths of a source, in which a list's numbers take one place each
 abbrev pub widths_in : Source → Widths → Widths
-widths_in S w = record { flag = w.flag; coord = width_in S w.coord; comp = width_in S w.comp; n = w.n }
+widths_in S w = record { coord = width_in S w.coord; comp = width_in S w.comp; n = w.n }
 
 -- ---- the input that the numbers are placed from
 
