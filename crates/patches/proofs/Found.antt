@@ -9,7 +9,7 @@ use Rattle.std.specs.Prelude.{Option, Some, None}
 use Rattle.records.specs.declared.shape.Shape.{Shape}
 use Rattle.rows.specs.declared.Place.{Place}
 use Rattle.rows.specs.Inner.Sources.{masked, flag_at}
-use Rattle.rows.proofs.Callers.{flag_there}
+use Rattle.rows.proofs.Callers.{flag_there, flag_stands}
 use Rattle.patches.specs.declared.finding.Records.{Records}
 use Rattle.patches.specs.Inner.Forms.{own_of}
 use Rattle.patches.specs.Inner.Records.{size_of, flag_meant, most_after, found_at}
@@ -38,7 +38,8 @@ pub flag_read : (m : Records) (pos : ℕ) {f : ℕ} → pos + m.input.layout.fla
 flag_read m pos h e =
     let L = m.input.layout in
     ap (masked m.mask) e
-    ∙ flag_there m.input.source m.mask L.flag pos m.mask_there m.flagged L.flag_few m.input.short (omega (arith, m.all_places))
+    ∙ flag_there m.input.source m.mask L.flag pos m.mask_there
+      (flag_stands m.input.source L.flag pos m.flagged L.flag_few m.input.short (omega (arith, h, m.all_places)))
 
 module _ (m : Records) (started : Bool) (pos : ℕ) where
   -- not even a flag

@@ -48,12 +48,20 @@ module _ (I : Input) (N : Numbers) {entry exit : List Float} {at next : ℕ} whe
       placed_written w (corner_fits_lem I p side at (length entry) room before there)
       (omega (arith, length-append (shared_rows entry side size at) vertex, shared_end entry side size at, length-vertex_at N I.layout.coord I.layout.comp I.layout.n p))
 
+-- a reader's flag of so many bits stands at a place; a list is asked for nothing
+abbrev pub FlagStands : Source → ℕ → ℕ → Type 0
+FlagStands (Bits s) width p = (1 ≤ width) × ((width ≤ 32) × ((8 * length s.now ≤ 134217728) × (p + width ≤ 8 * length s.now)))
+FlagStands (Listed vs) width p = Unit {0}
+
 -- what is left of a flag by the mask is what it means; that of a list is left whole
-pub flag_there : (S : Source) (mask width p : ℕ) → mask ≡ mask_in S mask → 1 ≤ width → width ≤ 32 → places S ≤ 134217728 → p + width ≤ places S
-    → masked mask (flag_at S width p) ≡ flag_in S width mask p
+pub flag_there : (S : Source) (mask width p : ℕ) → mask ≡ mask_in S mask → FlagStands S width p → masked mask (flag_at S width p) ≡ flag_in S width mask p
 unfolding flag_at flag_in
-flag_there (Bits s) mask width p m some few short there = rw (← (answer_number s.now p width some few there (omega arith)))
-flag_there (Listed vs) mask width p m some few short there = rw m (whole_masked (flag_of (get_or vs.now p nan)) (flag_below (get_or vs.now p nan)))
+flag_there (Bits s) mask width p m (some, (few, (short, there))) = rw (← (answer_number s.now p width some few there (omega arith)))
+flag_there (Listed vs) mask width p m stands = rw m (whole_masked (flag_of (get_or vs.now p nan)) (flag_below (get_or vs.now p nan)))
+
+pub flag_stands : (S : Source) (width p : ℕ) → 1 ≤ width → width ≤ 32 → places S ≤ 134217728 → p + width ≤ places S → FlagStands S width p
+flag_stands (Bits s) width p some few short there = (some, (few, (short, there)))
+flag_stands (Listed vs) width p some few short there = tt
 
 pub copy_written : {entry exit : List Float} {at next : ℕ} (size from : ℕ) → Placed (copy_fits size from at (length entry)) entry exit at (part nan entry from size) next
     → from + size ≤ at → at + size ≤ length entry → (next ≡ at + size) × Written entry exit at (part nan entry from size) next

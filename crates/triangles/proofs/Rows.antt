@@ -15,7 +15,7 @@ use Rattle.colour.proofs.Lengths.{length-vertex_at}
 use Rattle.rows.specs.Inner.Sources.{places, numbers_of, masked, flag_at}
 use Rattle.rows.specs.Inner.Placing.{vertex_places, shared_rows, row_index, corner_fits}
 use Rattle.rows.proofs.Corners.{no_shared, two_shared, index_alone, index_joined}
-use Rattle.rows.proofs.Callers.{corner_placed, flag_there}
+use Rattle.rows.proofs.Callers.{corner_placed, flag_there, flag_stands}
 use Rattle.triangles.specs.declared.vertices.Vertices.{Vertices}
 use Rattle.triangles.specs.Inner.Vertices.{flag_of_vertex, row_size, row_of_vertex}
 
@@ -35,7 +35,8 @@ module _ (v : Vertices) (i : ℕ) (k : i < v.total) where
   unfolding flag_of_vertex
   flag_here some e =
       ap (masked v.mask) e
-      ∙ flag_there v.input.source v.mask v.input.layout.flag (i * v.size) v.mask_there some v.input.layout.flag_few v.input.short (omega (arith, ends_there, v.sized))
+      ∙ flag_there v.input.source v.mask v.input.layout.flag (i * v.size) v.mask_there
+        (flag_stands v.input.source v.input.layout.flag (i * v.size) some v.input.layout.flag_few v.input.short (omega (arith, ends_there, v.sized)))
 
 pub length_in : (v : Vertices) (R : Ranges) (i : ℕ) → length (row_of_vertex v R i) ≡ row_size v
 unfolding row_of_vertex
