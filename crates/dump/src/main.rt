@@ -26,7 +26,7 @@ fn read_input<R: Read>(reader: &mut R, file: &mut [u8]) -> io::Result<usize>
     ensures first { IfOk result (λ kept. IfSome (R.remaining reader.old) (λ xs. take kept file.new ≡ take (length file.new) xs)) }
 {
     let mut at = 0;
-    for _ in 0..u64::MAX {
+    for _ in 0..u64::MAX { // every call ends
         let mut came = [0; 4096];
         match reader.read(&mut came)? {
             0 => return Ok(at),

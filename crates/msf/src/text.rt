@@ -3,7 +3,7 @@ ghost use Rattle.std.specs.Prelude.{◌≡◌, [], ◌∷◌, ◌+◌, ◌≤◌
 ghost use Rattle.msf.specs.Text.{glyph, decimal, float_text};
 ghost use Rattle.msf.specs.Inner.Appending.{Appends};
 
-// The bytes before index at have been written.
+// The bytes before index at have been written. There is no heap for a String.
 #[derive(Drop)]
 pub struct Text<'a> {
     pub out: &'a mut [u8],

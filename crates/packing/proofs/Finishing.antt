@@ -12,8 +12,8 @@ use Rattle.answers.specs.declared.Refusal.TheVariants.{Room, Record}
 use Rattle.std.specs.Prelude.{Ok, Err, Some, None}
 use Rattle.answers.specs.Outcome.{Done}
 use Rattle.answers.proofs.Outcomes.{was_refused, no_room, all_written}
-use Rattle.bits.specs.Bits.{bits_of}
-use Rattle.packing.specs.declared.put.Waiting.{Waiting}
+use Rattle.bits.specs.Bits.{bits_of, stream}
+use Rattle.packing.specs.declared.waiting.Waiting.{Waiting}
 use Rattle.packing.specs.Packed.{byte_count, bytes}
 use Rattle.packing.specs.Writer.{in_bytes}
 use Rattle.packing.specs.Inner.Passes.{measure_of, Roomy, Filled, Put}
@@ -52,12 +52,13 @@ module _ (o : Option (List ℕ)) where
     unfolding Roomy
     room_is room h = subst (λ (x : Option (List ℕ)). Roomy x room) e h
 
-    pub all_put : {entry mid exit : List ℕ} (w : Waiting) (p : ℕ) → Put (record { at = 0; count = 0; bits = 0 }) w entry mid bits
+    pub all_put : {entry mid exit : List ℕ} {start : Waiting} (w : Waiting) (p : ℕ) → start.at ≡ 0 → start.count ≡ 0 → Put start w entry mid bits
         → Written mid exit w.at (bytes (bits_of w.count w.bits)) p → Filled o entry exit p
     unfolding Filled bits_of
-    all_put {entry} {mid} {exit} w p f g =
-        let same : bytes bits ≡ f.bytes ++ bytes (bits_of w.count w.bits) = ap bytes (sym f.same) ∙ bytes_after f.bytes (bits_of w.count w.bits) f.clean in
-        rw (e, same) (written_then f.written g)
+    all_put {entry} {mid} {exit} w p no_bytes no_bits f g =
+        let all : stream f.bytes ++ bits_of w.count w.bits ≡ bits = rw no_bits at f.same in
+        let same : bytes bits ≡ f.bytes ++ bytes (bits_of w.count w.bits) = ap bytes (sym all) ∙ bytes_after f.bytes (bits_of w.count w.bits) f.clean in
+        rw (e, same) (written_then (rw no_bytes at f.written) g)
 
     pub filled : {entry exit : List ℕ} {p : ℕ} → Filled o entry exit p → Done (in_bytes o (length entry)) entry (Ok p) exit
     unfolding Filled in_bytes

@@ -14,7 +14,7 @@ use Rattle.lists.proofs.Writing.{written_none, written_set, written_then, writte
 use Rattle.bits.specs.Bits.{bits_of, stream}
 use Rattle.bits.proofs.Digits.{length-bits, bits_mod, bits_add, bits_join}
 use Rattle.bits.proofs.Streams.{length-stream, stream_append}
-use Rattle.packing.specs.declared.put.Waiting.{Waiting}
+use Rattle.packing.specs.declared.waiting.Waiting.{Waiting}
 use Rattle.packing.specs.Packed.{byte_count, bytes}
 use Rattle.packing.specs.Inner.Passes.{Stored, Put}
 use Rattle.packing.proofs.Filling.{bytes_are, zeros}
@@ -58,9 +58,9 @@ bits_put count w bits x h f =
 
 -- ---- one put after another
 
-pub put_none : (a : Waiting) (l : List ℕ) → a.at ≤ length l → a.count < 32 → Put a a l l []
+pub put_none : (a : Waiting) (l : List ℕ) → a.at ≤ length l → Put a a l l []
 unfolding stream
-put_none a l h f = record { bytes = []; written = written_none l a.at h; clean = tt; few = f; same = sym (append-nil _) }
+put_none a l h = record { bytes = []; written = written_none l a.at h; clean = tt; same = sym (append-nil _) }
 
 pub put_then : {a b c : Waiting} {l m o p q : List ℕ} → Put a b l m p → Put b c m o q → Put a c l o (p ++ q)
 put_then {a} {b} {c} {l} {m} {o} {p} {q} f g =
@@ -68,7 +68,6 @@ put_then {a} {b} {c} {l} {m} {o} {p} {q} f g =
       bytes = f.bytes ++ g.bytes;
       written = written_then f.written g.written;
       clean = all_append (λ (x : ℕ). x < 256) f.bytes g.bytes f.clean g.clean;
-      few = g.few;
       same =
           rw (stream_append f.bytes g.bytes, append_assoc, g.same, ← append_assoc (stream f.bytes), f.same) (append_assoc (bits_of a.count a.bits) p q);
     }
@@ -92,26 +91,25 @@ put_length f = written_length f.written
 
 -- ---- a number put
 
-module _ (a : Waiting) (x w : ℕ) (l : List ℕ) (f : x < 2 ^ w) (few : a.count < 32) (w32 : w ≤ 32) where
+module _ (a : Waiting) (x w : ℕ) (l : List ℕ) (f : x < 2 ^ w) (w32 : w ≤ 32) where
   abbrev wide : ℕ
   wide = bit_or (a.bits * 2 ^ w % 2 ^ 64) x
 
   -- all its bits wait
-  pub put_waits : 8 * a.at + a.count + w ≤ 8 * length l → a.count + w < 32
-      → Put a (record { at = a.at; count = a.count + w; bits = wide }) l l (bits_of w x)
+  pub put_waits : {few : a.count + w < 32} → 8 * a.at + a.count + w ≤ 8 * length l
+      → Put a (record { at = a.at; count = a.count + w; bits = wide; few = few }) l l (bits_of w x)
   unfolding stream
-  put_waits h c =
+  put_waits h =
       record {
         bytes = [];
         written = written_none l a.at (omega arith);
         clean = tt;
-        few = c;
         same = bits_put a.count w a.bits x (omega arith) f;
       }
 
   -- four bytes go out
-  pub put_goes : {o : List ℕ} → 32 ≤ a.count + w → Stored l o a.at 4 (wide / 2 ^ (a.count + w - 32))
-      → Put a (record { at = a.at + 4; count = a.count + w - 32; bits = wide }) l o (bits_of w x)
+  pub put_goes : {o : List ℕ} {few : a.count + w - 32 < 32} → 32 ≤ a.count + w → Stored l o a.at 4 (wide / 2 ^ (a.count + w - 32))
+      → Put a (record { at = a.at + 4; count = a.count + w - 32; bits = wide; few = few }) l o (bits_of w x)
   put_goes {o} c s =
       let left : ℕ = a.count + w - 32 in
       let e : 32 + left ≡ a.count + w = omega arith in
@@ -119,7 +117,6 @@ module _ (a : Waiting) (x w : ℕ) (l : List ℕ) (f : x < 2 ^ w) (few : a.count
         bytes = s.bytes;
         written = s.written;
         clean = s.clean;
-        few = omega arith;
         same =
             rw s.same
             (sym (bits_add 32 left wide) ∙ ap (λ (n : ℕ). bits_of n wide) e ∙ bits_put a.count w a.bits x (omega arith) f);

@@ -8,6 +8,7 @@ ghost use Rattle.packing.specs.Writer.{raw_write};
 
 mod measure;
 mod put;
+mod waiting;
 mod write;
 
 use answers::Answer;

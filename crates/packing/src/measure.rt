@@ -49,7 +49,7 @@ pub fn measure(numbers: &[u32], mesh: Mesh) -> Option<usize>
 {
     let mut total = 0;
     let mut i = 0;
-    while i < numbers.len() {
+    while i < numbers.len() { // by whole records: each tells how far the next one is
         let rest = mesh.rest(0 < i, numbers[i])?;
         if !record_fits(numbers, i, mesh, rest) {
             return None;

@@ -6,15 +6,8 @@ ghost use Rattle.records.specs.Inner.Walk.{record_size};
 ghost use Rattle.packing.specs.Packed.{bytes};
 ghost use Rattle.packing.specs.Inner.Passes.{fits, run_bits, record_fits, record_bits, Stored, Put};
 
+use crate::waiting::Waiting;
 use records::mesh::{Mesh, Rest};
-
-// `at` bytes are written; the low `count` bits of `bits` wait.
-#[derive(Clone, Copy)]
-pub struct Waiting {
-    pub at: usize,
-    pub count: usize,
-    pub bits: u64,
-}
 
 // Stores the low count bytes of a number, high first.
 fn store(number: u64, count: usize, at: usize, out: &mut [u8])
@@ -28,11 +21,22 @@ fn store(number: u64, count: usize, at: usize, out: &mut [u8])
 }
 
 impl Waiting {
+    // Nothing is written, and nothing waits.
+    pub fn none() -> Waiting
+        ensures at { result.at ≡ 0 }
+        ensures count { result.count ≡ 0 }
+    {
+        Waiting {
+            at: 0,
+            count: 0,
+            bits: 0,
+        }
+    }
+
     // Puts a number of w bits. What stands above the bits that wait does no harm, and is let be.
     fn put(self, x: u32, w: usize, out: &mut [u8]) -> Waiting
         requires fits { x < 2 ^ w }
         requires width { w ≤ 32 }
-        requires few { self.count < 32 }
         requires room { 8 * self.at + self.count + w ≤ 8 * length out.old }
         ensures { Put self result out.old out.new (bits_of w x) }
     {
@@ -58,7 +62,6 @@ impl Waiting {
     fn put_run(self, run: &[u32], w: usize, out: &mut [u8]) -> Waiting
         requires fits { fits w run.now ≡ true }
         requires width { w ≤ 32 }
-        requires few { self.count < 32 }
         requires room { 8 * self.at + self.count + length run.now * w ≤ 8 * length out.old }
         ensures { Put self result out.old out.new (run_bits w run.now) }
     {
@@ -79,7 +82,6 @@ impl Waiting {
         out: &mut [u8],
     ) -> Waiting
         requires fits { record_fits mesh rest.coords rest.comps numbers.now i ≡ true }
-        requires few { self.count < 32 }
         requires room { 8 * self.at + self.count + record_size mesh rest.coords rest.comps ≤ 8 * length out.old }
         ensures { Put self result out.old out.new (record_bits mesh rest.coords rest.comps numbers.now i) }
     {
@@ -92,7 +94,6 @@ impl Waiting {
 
     // The bits that wait go out, the last byte filled with zeros. Answers how many bytes are written.
     pub fn flush(self, out: &mut [u8]) -> usize
-        requires few { self.count < 32 }
         requires room { 8 * self.at + self.count ≤ 8 * length out.old }
         ensures { Written out.old out.new self.at (bytes (bits_of self.count self.bits)) result }
     {

@@ -9,7 +9,7 @@ ghost use Rattle.packing.specs.Writer.{thin, in_bytes, raw_write};
 ghost use Rattle.packing.specs.Inner.Passes.{Roomy, Filled};
 
 use crate::measure::measure;
-use crate::put::Waiting;
+use crate::waiting::Waiting;
 use answers::{Answer, Refusal};
 use records::mesh::Mesh;
 use records::shape::Kind;
@@ -19,13 +19,9 @@ fn fill(numbers: &[u32], mesh: Mesh, out: &mut [u8]) -> usize
     requires { Roomy (packed (format_of mesh) false [] numbers.now) (length out.old) }
     ensures { Filled (packed (format_of mesh) false [] numbers.now) out.old out.new result }
 {
-    let mut waiting = Waiting {
-        at: 0,
-        count: 0,
-        bits: 0,
-    };
+    let mut waiting = Waiting::none();
     let mut i = 0;
-    while i < numbers.len() {
+    while i < numbers.len() { // by whole records: each tells how far the next one is
         let rest = mesh.rest(0 < i, numbers[i]).unwrap();
         waiting = waiting.put_record(numbers, i, mesh, rest, out);
         i += 1 + rest.coords + rest.comps;

@@ -80,6 +80,7 @@ impl Form {
         }
     }
 
+    // The side that a flag names. A flag is the number of the stream, as in the clause's tables.
     pub fn side(self, flag: u32) -> &'static Side
         requires joined { 1 ≤ flag }
         requires few { flag ≤ 3 }

@@ -143,7 +143,7 @@ impl Patches<'_> {
         let mut at: usize = 0;
         let mut place = Place(0);
         let mut started = false; // only a patch joined to no other may come first
-        while let Some((flag, next)) = self.records.find(started, place) {
+        while let Some((flag, next)) = self.records.find(started, place) { // each record tells where the next one is
             at = self.write_patch(flag, place, out, at);
             place = next;
             started = true;
@@ -170,7 +170,7 @@ impl Records<'_> {
         let mut count: usize = 0;
         let mut place = Place(0);
         let mut started = false;
-        while let Some((_, next)) = self.find(started, place) {
+        while let Some((_, next)) = self.find(started, place) { // each record tells where the next one is
             count += 1;
             place = next;
             started = true;

@@ -56,7 +56,7 @@ impl Stream<'_> {
         let mut at = BitPos(0);
         let mut count = 0;
         let mut started = false;
-        while let Some(record) = self.find_record(started, at) {
+        while let Some(record) = self.find_record(started, at) { // each record tells where the next one is
             count += 1 + record.rest.coords + record.rest.comps;
             at = record.end;
             started = true;
@@ -149,7 +149,7 @@ impl Stream<'_> {
         let size = 1 + coords + self.mesh.n;
         let mut at = BitPos(0);
         let mut p = 0;
-        while p < count {
+        while p < count { // by whole vertices: to count them would be a division
             at = self.write_vertex(coords, at, out, p);
             p += size;
         }
@@ -164,7 +164,7 @@ impl Stream<'_> {
         let mut at = BitPos(0);
         let mut p = 0;
         let mut started = false;
-        while p < count {
+        while p < count { // each record tells where the next one is
             let after = self.write_run(at, self.mesh.first, 1, out, p);
             let rest = self.mesh.rest(started, out[p]).unwrap();
             at = self.write_rest(after, rest, out, p + 1);

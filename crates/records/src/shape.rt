@@ -39,7 +39,7 @@ pub struct Shape {
     pub colours: usize,
 }
 
-// Types 6 and 7, where a joined patch has so many points of its own.
+// Types 6 and 7, where a joined patch has so many points of its own. Whether a patch came before is a Bool in `shape_of` and in `next`.
 fn patch_shape(own: usize, started: bool, flag: u32) -> Option<Shape>
     requires { own ≤ 12 }
     ensures { result ≡ patch_shape own started flag }

@@ -25,7 +25,7 @@ pub struct Call {
     pub row: usize,
 }
 
-// A reader has its type's number, a builder ten more.
+// A reader has its type's number, a builder ten more. Nobody asks which number names none, so this is no TryFrom.
 pub fn function_of(number: usize) -> Option<Function>
     ensures { result ≡ function_of number }
 {

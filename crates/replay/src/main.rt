@@ -47,7 +47,7 @@ fn replay_file(rt: &impl Print, name: &str, file: &[u8]) -> Tally
     let mut agree = 0;
     let mut disagree = 0;
     let mut rest = file;
-    while !rest.is_empty() {
+    while !rest.is_empty() { // each case tells how long it is
         let case = agree + disagree + 1;
         let function = rest[0];
         let Some(Replayed { size, wrong }) = replaying::replay(rest) else {

@@ -17,7 +17,7 @@ mod writing;
 pub use any::{Widths, fill_ranges, flag_at, place_colours, place_corner, place_points};
 pub use copying::copy_point;
 
-// Which bits of a flag count. A reader of bytes chooses once; the flags of a list are whole numbers.
+// Which bits of a flag count. A reader of bytes chooses once, by a mask and no test: docs/DECISIONS.md. The flags of a list are whole numbers.
 pub const WHOLE_NUMBER: u32 = 0xffff_ffff;
 
 pub const TWO_LOW_BITS: u32 = 3;

@@ -15,7 +15,7 @@ use crate::{Decoded, Place, Source, writing};
 use bits::BitPos;
 use decode::Range;
 
-// ---- in bits, which are there
+// ---- in bits, which are there. What a loop needs are plain parameters: what is behind a reference is loaded for each number.
 
 // The number of so many bits at a place. It is put into each caller, where the read itself is weighed.
 #[inline(always)]
@@ -200,7 +200,7 @@ impl Decoded<'_> {
 
 impl Decoded<'_> {
     // The row of the vertex whose coordinates begin at a place. Before it come the two rows of the side by which it is joined, if there is one: the first
-    // stands at index side, the second right before index at. Where there is none, `side` is `at`.
+    // stands at index side, the second right before index at. Where there is none, `side` is `at`, as of the `place_corner` that docs/PROMISES.md names.
     pub fn place_corner(self, place: Place, side: usize, out: &mut [f64], at: usize) -> usize
         ensures { Placed (corner_fits self.entry.input.now place.0 side at (length out.old)) out.old out.new at (shared_rows out.old side (10 + self.entry.input.now.layout.n) at ++ vertex_in self.entry place.0) result }
     {

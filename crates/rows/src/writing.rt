@@ -1,4 +1,5 @@
-// Numbers written to a lent output from an index, where there is room for them. Each function answers the index after them.
+// Numbers written to a lent output from an index, where there is room for them. Each function answers the index after them. The output and the index
+// stand side by side, as in `place_points`, `place_colours` and `place_corner`, which docs/PROMISES.md names.
 ghost use Rattle.std.specs.Prelude.{◌≡◌, [], ◌∷◌, ◌++◌, ◌+◌, ◌≤◌, ◌<◌, length};
 ghost use Rattle.std.specs.Float.{nan};
 ghost use Rattle.lists.specs.Lists.{part};
@@ -78,7 +79,7 @@ pub fn write_part(values: &[f64], out: &mut [f64], at: usize) -> usize
     at + n
 }
 
-// Numbers that stand in out already.
+// Numbers that stand in out already, two at a time: see `write_part`.
 pub fn copy_part(out: &mut [f64], from: usize, n: usize, at: usize) -> usize
     requires before { from + n ≤ at }
     requires room { at + n ≤ length out.old }

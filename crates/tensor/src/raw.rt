@@ -43,7 +43,7 @@ pub fn count_patches(numbers: &[u32], n: usize) -> Option<usize>
 {
     let mut count: usize = 0;
     let mut rest = numbers;
-    while let Some((flag, own)) = rest.split_first() {
+    while let Some((flag, own)) = rest.split_first() { // each record tells how many numbers it takes
         let Shape { coords, colours } = Kind::Six.shape(0 < count, *flag)?;
         rest = own.get(coords + colours * n..)?;
         count += 1;
@@ -186,7 +186,7 @@ pub fn write_patches(numbers: &[u32], n: usize, out: &mut [i64])
     let mut before = None;
     let mut rest = numbers;
     let mut at: usize = 0;
-    while let Some((flag, own)) = rest.split_first() {
+    while let Some((flag, own)) = rest.split_first() { // each record tells how many numbers it takes
         let (patch, after) = take_patch(before, *flag, own, n);
         write_patch(&patch, n, &mut out[at..at + size]);
         before = Some(patch);

@@ -1,11 +1,11 @@
 -- What the writer's inner functions promise one another.
-use Rattle.std.specs.Prelude.{Some, None, ◌≡◌, Bool, true, ◌&&◌, List, [], ◌∷◌, ◌++◌, ℕ, ◌+◌, ◌*◌, ◌^◌, ◌≤◌, ◌<◌, ltb, leb, length, take, drop, get_or}
+use Rattle.std.specs.Prelude.{Some, None, ◌≡◌, Bool, true, ◌&&◌, List, [], ◌∷◌, ◌++◌, ℕ, ◌+◌, ◌*◌, ◌^◌, ◌≤◌, ltb, leb, length, take, drop, get_or}
 use Rattle.std.proofs.Math.Option.{Option, none, some}
 use Rattle.lists.specs.Lists.{AllBelow, flat}
 use Rattle.lists.specs.Writing.{Written}
 use Rattle.bits.specs.Bits.{bits_of, stream}
 use Rattle.records.specs.declared.mesh.Mesh.{Mesh}
-use Rattle.packing.specs.declared.put.Waiting.{Waiting}
+use Rattle.packing.specs.declared.waiting.Waiting.{Waiting}
 use Rattle.packing.specs.Packed.{bytes}
 use Rattle.packing.specs.Inner.Measure.{Measured}
 
@@ -69,5 +69,4 @@ pub record Put (a b : Waiting) (entry exit bits : List ℕ) : Type 0 where
   pub bytes : List ℕ
   pub written : Written entry exit a.at bytes b.at
   pub clean : AllBelow 256 bytes
-  pub few : b.count < 32
   pub same : stream bytes ++ bits_of b.count b.bits ≡ bits_of a.count a.bits ++ bits

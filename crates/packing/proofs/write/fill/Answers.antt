@@ -44,7 +44,7 @@ loop-i-init c =
       within = omega arith;
       bits = [];
       reached = reached_start c.args.mesh c.args.numbers.now;
-      are_put = put_none _ _ (omega arith) (omega arith);
+      are_put = put_none _ _ (omega arith);
     }
 
 pub unwrap-rest-requires : goal.unwrap-rest-requires
@@ -80,12 +80,12 @@ loop-i-preserved c =
       are_put = put_then l.invariant.are_put c.put_record-waiting.ensures;
     }
 
-pub flush-requires-clause-room : goal.flush-requires-clause-room
-flush-requires-clause-room c =
+pub flush-requires : goal.flush-requires
+flush-requires c =
     let p = c.loop-i.invariant.are_put in
-    omega (arith, put_place p, put_length p, room_is _ _ (accepted (goal.at.flush-requires-clause-room c).After-loop-i) (length c.args.out.now) c.requires)
+    omega (arith, put_place p, put_length p, room_is _ _ (accepted (goal.at.flush-requires c).After-loop-i) (length c.args.out.now) c.requires)
 
 pub returns : goal.returns
 returns c =
     let l = c.loop-i in
-    all_put _ l.invariant.bits (accepted (goal.at.returns c).After-loop-i) l.waiting c.flush.result l.invariant.are_put c.flush.ensures
+    all_put _ l.invariant.bits (accepted (goal.at.returns c).After-loop-i) l.waiting c.flush.result c.none-waiting.ensures.at c.none-waiting.ensures.count l.invariant.are_put c.flush.ensures

@@ -5,11 +5,11 @@ use Rattle.lists.specs.Lists.{flat}
 use Rattle.packing.specs.Inner.Passes.{run_bits}
 use Rattle.packing.proofs.Runs.{fits_at, run_bits-more, length-run_bits}
 use Rattle.packing.proofs.Putting.{put_none, put_then, put_place, put_length}
-use Rattle.packing.proofs.put.Waiting.put_run.Goals as goal
+use Rattle.packing.proofs.waiting.Waiting.put_run.Goals as goal
 
 pub loop-x-init : goal.loop-x-init
 unfolding flat
-loop-x-init c = put_none _ _ (omega arith) (omega arith)
+loop-x-init c = put_none _ _ (omega arith)
 
 pub put-waiting-requires-clause-fits : goal.put-waiting-requires-clause-fits
 put-waiting-requires-clause-fits c = fits_at c.args.w c.args.run.now c.loop-x.x-index c.loop-x-test.true c.requires.fits

@@ -6,8 +6,8 @@ use Rattle.packing.specs.Inner.Passes.{run_at, run_bits}
 use Rattle.packing.proofs.Runs.{length_run, length-run_bits}
 use Rattle.packing.proofs.Records.{Parts, fits_parts}
 use Rattle.packing.proofs.Putting.{put_then, put_place, put_length}
-use Rattle.packing.proofs.put.Waiting.put_record.Goals as goal
-use Rattle.packing.proofs.put.Waiting.put_record.Goals.{Start}
+use Rattle.packing.proofs.waiting.Waiting.put_record.Goals as goal
+use Rattle.packing.proofs.waiting.Waiting.put_record.Goals.{Start}
 
 fit : (s : Start) → Parts s.args.mesh s.args.rest.coords s.args.rest.comps s.args.numbers.now s.args.i
 fit s = fits_parts s.args.mesh s.args.rest.coords s.args.rest.comps s.args.numbers.now s.args.i s.requires.fits

@@ -2,9 +2,9 @@
 use Rattle.std.proofs.Common.{◌≡◌, ◌∙◌, arith}
 use Rattle.packing.specs.Packed.{byte_count}
 use Rattle.packing.proofs.Putting.{flush_writes}
-use Rattle.packing.proofs.put.Waiting.flush.Goals as goal
+use Rattle.packing.proofs.waiting.Waiting.flush.Goals as goal
 
 pub returns : goal.returns
 returns c =
     let n : c.div_ceil-count.result ≡ byte_count c.args.self.count = c.div_ceil-count.ensures ∙ omega arith in
-    rw n (flush_writes c.args.self c.requires.few (rw n at c.store.ensures))
+    rw n (flush_writes c.args.self c.args.self.few (rw n at c.store.ensures))
