@@ -25,11 +25,11 @@ impl Widths {
     fn fair(self, source: Source) -> bool
         ensures { result ≡ fair source.entry self }
     {
-        self.n <= 32
+        self.n <= answers::MOST_COMPONENTS
             && bits::width_is_readable(self.coord)
             && bits::width_is_readable(self.comp)
             && match source {
-                Source::Bits(bytes) => bytes.len() <= 16_777_216,
+                Source::Bits(bytes) => bytes.len() <= answers::MOST_BYTES,
                 Source::List(_) => self.coord == 1 && self.comp == 1,
             }
     }
