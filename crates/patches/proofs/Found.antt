@@ -39,7 +39,7 @@ flag_read m pos h e =
     let L = m.input.layout in
     ap (masked m.mask) e
     ∙ flag_there m.input.source m.mask L.flag pos m.mask_there
-      (flag_stands m.input.source L.flag pos m.flagged L.flag_few m.input.short (omega (arith, h, m.all_places)))
+    (flag_stands m.input.source L.flag pos m.flagged L.flag_few m.input.short (omega (arith, h, m.all_places)))
 
 module _ (m : Records) (started : Bool) (pos : ℕ) where
   -- not even a flag

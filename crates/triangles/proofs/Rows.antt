@@ -36,7 +36,7 @@ module _ (v : Vertices) (i : ℕ) (k : i < v.total) where
   flag_here some e =
       ap (masked v.mask) e
       ∙ flag_there v.input.source v.mask v.input.layout.flag (i * v.size) v.mask_there
-        (flag_stands v.input.source v.input.layout.flag (i * v.size) some v.input.layout.flag_few v.input.short (omega (arith, ends_there, v.sized)))
+      (flag_stands v.input.source v.input.layout.flag (i * v.size) some v.input.layout.flag_few v.input.short (omega (arith, ends_there, v.sized)))
 
 pub length_in : (v : Vertices) (R : Ranges) (i : ℕ) → length (row_of_vertex v R i) ≡ row_size v
 unfolding row_of_vertex
