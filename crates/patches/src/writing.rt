@@ -43,6 +43,7 @@ fn copy_colour(layout: Layout, out: &mut [f64], start: usize, i: usize, at: usiz
     layout.copy_colour(out, start + i * (8 + layout.n), at)
 }
 
+// Points and colours have nothing in common but the loop: their counts, sizes and places differ.
 impl Side {
     fn copy_points(&self, out: &mut [f64], start: usize, at: usize) -> usize
         requires few { AllBelow 16 self.now.points }

@@ -101,6 +101,8 @@ pub fn fill_ranges(
     }
 }
 
+// ---- what is placed. The three have no more than their shape in common: each has a test of its own, and lends a part of a list of its own size.
+
 // k points that begin at a place.
 pub fn place_points(
     source: Source,

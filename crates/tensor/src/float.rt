@@ -1,4 +1,5 @@
-// Coons patches of f64, as a reader has written them.
+// Coons patches of f64, as a reader has written them. With raw patches they share `write_along`: a raw patch has a flag, sides to take over, and other
+// sizes.
 ghost use Rattle.std.specs.Prelude.{◌≡◌, ℕ, ◌+◌, ◌*◌, ◌/◌, ◌%◌, ◌≤◌, length};
 ghost use Rattle.lists.specs.Lists.{flat};
 ghost use Rattle.lists.specs.Writing.{put};

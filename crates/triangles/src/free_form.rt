@@ -95,7 +95,7 @@ impl Rows<'_> {
     {
         let total = self.vertices.total;
         let size = 10 + self.vertices.input.layout.n;
-        let mut first: usize = 0;
+        let mut first: usize = 0; // of the last triangle, of which there is one where p > 0, as in the Rust
         let mut p: usize = 0;
         let mut i: usize = 0;
         while i < total { // by one or by three

@@ -21,7 +21,7 @@ fn lattice_rows(total: usize, row: usize) -> usize
     if row < 2 { 0 } else { total / row }
 }
 
-// Where a row stands, so many numbers before index at, that an earlier cell has.
+// Where a row stands, so many numbers before index at, that an earlier cell has. A closure for `then` would need the same contract.
 fn back_from(there: bool, at: usize, back: usize) -> Option<usize>
     requires { there ≡ true → back ≤ at }
     ensures { result ≡ cond there (Some (at - back)) None }

@@ -90,7 +90,8 @@ impl Rows<'_> {
         self.vertices.input.layout.copy_row(out, from, at)
     }
 
-    // Writes the row that stands at index first, the row right before `at`, and the row of vertex i.
+    // Writes the row that stands at index first, the row right before `at`, and the row of vertex i. It shares with `write` no more than the call: of
+    // one function for both each caller would have to take its rows out of a longer list.
     pub fn write_joined(self, first: usize, i: usize, out: &mut [f64], at: usize) -> usize
         requires there { i < self.vertices.now.total }
         requires before { first + row_size self.vertices.now ≤ at }
