@@ -12,8 +12,8 @@ ghost use Rattle.patches.specs.Inner.Forms.{parsed_form, built_form};
 
 use crate::finding::Records;
 use crate::forms::Form;
-use answers::{Answer, Refusal};
-use rows::{Input, Layout, Source};
+use answers::Answer;
+use meshes::accepting;
 
 mod finding;
 mod forms;
@@ -33,47 +33,14 @@ fn parse_patches(
 ) -> Answer
     ensures { Done (parsed_form form (masked mask) «data».now coord comp flag decode.now n (length out.old)) out.old result out.new }
 {
-    if !records::layout::mesh_layout_is_readable(coord, comp, Some(flag), decode.len()) {
-        return Err(Refusal::Layout);
-    }
-    if n > answers::MOST_COMPONENTS {
-        return Err(Refusal::Components);
-    }
-    if data.len() > answers::MOST_BYTES {
-        return Err(Refusal::Length);
-    }
-    let layout = Layout {
-        flag,
-        coord,
-        comp,
-        n,
-    };
-    let input = Input {
-        source: Source::Bits(data),
-        layout,
-    };
+    let input = accepting::bits(data, coord, comp, Some(flag), decode, n)?;
     Records::new(input, mask, form).patches(decode, out)
 }
 
 fn build_patches(values: &[f64], n: usize, form: Form, out: &mut [f64]) -> Answer
     ensures { Done (built_form form values.now n (length out.old)) out.old result out.new }
 {
-    if n > answers::MOST_COMPONENTS {
-        return Err(Refusal::Components);
-    }
-    if values.len() > answers::MOST_NUMBERS {
-        return Err(Refusal::Length);
-    }
-    let layout = Layout {
-        flag: 1,
-        coord: 1,
-        comp: 1,
-        n,
-    };
-    let input = Input {
-        source: Source::List(values),
-        layout,
-    };
+    let input = accepting::list(values, 1, n)?;
     Records::new(input, rows::WHOLE_NUMBER, form).patches(&[], out)
 }
 

@@ -10,7 +10,7 @@ use Rattle.lists.specs.Lists.{joined, flat}
 use Rattle.lists.specs.Writing.{Written}
 use Rattle.answers.specs.declared.Refusal.TheVariants.{Room}
 use Rattle.answers.specs.declared.Told.{Told}
-use Rattle.answers.specs.Limits.{most_components, most_bytes}
+use Rattle.answers.specs.Limits.{most_components}
 use Rattle.answers.specs.Outcome.{Outcome, Tells, Done}
 use Rattle.answers.proofs.Outcomes.{no_room_for, all_written}
 use Rattle.bits.specs.Bits.{field_at}
@@ -30,13 +30,14 @@ use Rattle.rules.specs.Triangles.{Tri, triangle_before, triangles, corners}
 use Rattle.rules.specs.Lattice.{lattice}
 use Rattle.rules.specs.Meshes.{Finished, finished, type4_mesh, type5_mesh}
 use Rattle.meshes.specs.Outcomes.{fitted_mesh, Stream, raw_of, parse4, parse5, build4, build5}
+use Rattle.meshes.specs.Accepting.{FromBits, FromList, HoldsBits, HoldsList}
+use Rattle.meshes.proofs.Accepted.{bits_short}
 use Rattle.meshes.proofs.Endings.{accepted, list_accepted}
 use Rattle.meshes.proofs.Ranges.{type4_alike, type5_alike}
 use Rattle.meshes.proofs.TriangleMeshes.{free_form, lattice_form, mesh_of_type4, mesh_of_type5, mesh_of_list4, mesh_of_list5}
 use Rattle.triangles.specs.declared.free_form.Rule.{Rule}
 use Rattle.triangles.specs.declared.vertices.Vertices.{Vertices}
 use Rattle.triangles.specs.Inner.Vertices.{row_size, flag_of_vertex, row_of_vertex, rule_of, triangles_in}
-use Rattle.triangles.specs.Inner.Accepting.{FromBits, FromList, HoldsBits, HoldsList}
 use Rattle.triangles.proofs.Rows.{length_in}
 use Rattle.triangles.proofs.Writing.{length-mesh}
 
@@ -99,24 +100,19 @@ module _ (v : Vertices) (from : v.total ≡ places v.input.source / v.size) (R :
 
 -- ---- from bits
 
-module _ (s : List ℕ) where
-  bits_short : (S : Source) → HoldsBits S s → places S ≤ 134217728 → length s ≤ most_bytes
-  bits_short (Bits b) h short = let few : length b.now ≤ most_bytes = omega arith in rw h at few
-  bits_short (Listed b) h short = absurd h
+module _ (s : List ℕ) (R : Ranges) (flag coord comp n : ℕ) where
+  type4_bits : (rule : T.Rule) (mask : ℕ) (S : Source) → HoldsBits S s
+      → free_form rule (flag_in S flag mask) (numbers_of S R) flag coord comp n (places S)
+      ≡ free_form rule (λ (p : ℕ). masked mask (field_at s p flag)) (bit_numbers s R) flag coord comp n (8 * length s)
+  unfolding flag_in numbers_of
+  type4_bits rule mask (Bits b) h = rw h
+  type4_bits rule mask (Listed b) h = absurd h
 
-  module _ (R : Ranges) (flag coord comp n : ℕ) where
-    type4_bits : (rule : T.Rule) (mask : ℕ) (S : Source) → HoldsBits S s
-        → free_form rule (flag_in S flag mask) (numbers_of S R) flag coord comp n (places S)
-        ≡ free_form rule (λ (p : ℕ). masked mask (field_at s p flag)) (bit_numbers s R) flag coord comp n (8 * length s)
-    unfolding flag_in numbers_of
-    type4_bits rule mask (Bits b) h = rw h
-    type4_bits rule mask (Listed b) h = absurd h
-
-    type5_bits : (row : ℕ) (S : Source) → HoldsBits S s
-        → lattice_form row (numbers_of S R) flag coord comp n (places S) ≡ lattice_form row (bit_numbers s R) flag coord comp n (8 * length s)
-    unfolding numbers_of
-    type5_bits row (Bits b) h = rw h
-    type5_bits row (Listed b) h = absurd h
+  type5_bits : (row : ℕ) (S : Source) → HoldsBits S s
+      → lattice_form row (numbers_of S R) flag coord comp n (places S) ≡ lattice_form row (bit_numbers s R) flag coord comp n (8 * length s)
+  unfolding numbers_of
+  type5_bits row (Bits b) h = rw h
+  type5_bits row (Listed b) h = absurd h
 
 module _ (v : Vertices) (from : v.total ≡ places v.input.source / v.size) (s : List ℕ) (coord comp : ℕ) (dec : List Float) (n : ℕ) where
   -- the ranges that are held, those of the layout
@@ -137,7 +133,7 @@ module _ (v : Vertices) (from : v.total ≡ places v.input.source / v.size) (s :
       let few : n ≤ most_components = rw f.n_is at v.input.layout.n_few in
       let w = layout_widths (Some flag) coord comp (length dec) f.readable in
       let is = simp (by, f.flag_is, f.coord_is, f.comp_is, f.n_is) at (type4_mesh_is v from held triangle_before) in
-      finishes (accepted m (type4_mesh (triangles triangle_before)) s entry f.readable few (bits_short s v.input.source f.holds v.input.short))
+      finishes (accepted m (type4_mesh (triangles triangle_before)) s (length entry) f.readable few (bits_short s v.input.source f.holds v.input.short))
       (sym (type4_alike (masked mask) held (ranges dec coord comp) n (alike few) (triangles triangle_before) (raw_of m s))
       ∙ mesh_of_type4 s held coord comp n (masked mask) flag w.of_first.some_bits triangle_before
       ∙ sym (is ∙ type4_bits s held flag coord comp n triangle_before mask v.input.source f.holds))
@@ -151,7 +147,7 @@ module _ (v : Vertices) (from : v.total ≡ places v.input.source / v.size) (s :
       let few : n ≤ most_components = rw f.n_is at v.input.layout.n_few in
       let w = layout_widths None coord comp (length dec) f.readable in
       let is = simp (f.flag_is, f.coord_is, f.comp_is, f.n_is) at (type5_mesh_is v from held row) in
-      finishes (accepted m (type5_mesh row) s entry f.readable few (bits_short s v.input.source f.holds v.input.short))
+      finishes (accepted m (type5_mesh row) s (length entry) f.readable few (bits_short s v.input.source f.holds v.input.short))
       (sym (type5_alike whole_number held (ranges dec coord comp) n (alike few) row (raw_of m s))
       ∙ mesh_of_type5 s held coord comp n w.of_coord.some_bits row
       ∙ sym (is ∙ type5_bits s held 0 coord comp n row v.input.source f.holds))
@@ -181,7 +177,7 @@ module _ (v : Vertices) (from : v.total ≡ places v.input.source / v.size) (vs 
       let I : Input = v.input in
       let few : n ≤ most_components = rw f.n_is at I.layout.n_few in
       let is = simp (f.flag_is, f.n_is) at (type4_mesh_is v from R (rule_of rule)) in
-      finishes (list_accepted (type4_mesh (triangles (rule_of rule))) n vs entry few f.short)
+      finishes (list_accepted (type4_mesh (triangles (rule_of rule))) n vs (length entry) few f.short)
       (mesh_of_list4 vs n (rule_of rule)
       ∙ sym (is ∙ type4_list vs R 1 n (rule_of rule) v.mask I.layout.coord I.layout.comp I.source f.holds I.coord_there I.comp_there)) d
 
@@ -192,5 +188,5 @@ module _ (v : Vertices) (from : v.total ≡ places v.input.source / v.size) (vs 
       let I : Input = v.input in
       let few : n ≤ most_components = rw f.n_is at I.layout.n_few in
       let is = simp (f.flag_is, f.n_is) at (type5_mesh_is v from R row) in
-      finishes (list_accepted (type5_mesh row) n vs entry few f.short)
+      finishes (list_accepted (type5_mesh row) n vs (length entry) few f.short)
       (mesh_of_list5 vs n row ∙ sym (is ∙ type5_list vs R 0 n row I.layout.coord I.layout.comp I.source f.holds I.coord_there I.comp_there)) d

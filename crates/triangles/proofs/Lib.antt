@@ -3,4 +3,3 @@ pub mod Counting
 pub mod Writing
 pub mod Cells
 pub mod Ends
-pub mod Refusing

@@ -1,18 +1,19 @@
--- `build_patches` meets its contract: at each `return` the tests that led there say which outcome it is. Assumes nothing.
-use mathlib.Core.Path.{refl}
-use mathlib.Core.List.{[]}
-use Rattle.meshes.proofs.Endings.{list_components, list_too_long}
+-- `build_patches` meets its contract: what is refused, else the patches of the list. Assumes nothing.
+use Rattle.std.proofs.Common.{[], sym, subst, ◌∙◌}
+use Rattle.meshes.specs.Accepting.{FromList}
+use Rattle.meshes.proofs.Accepted.{list_width, list_mask}
 use Rattle.patches.proofs.Starting.{list_outcome}
 use Rattle.patches.proofs.build_patches.Goals as goal
 
-pub returns-then-n-gt-MOST_COMPONENTS : goal.returns-then-n-gt-MOST_COMPONENTS
-returns-then-n-gt-MOST_COMPONENTS c = list_components _ _ _ _ c.if-n-gt-MOST_COMPONENTS.true
+pub new-requires-clause-flag_there : goal.new-requires-clause-flag_there
+new-requires-clause-flag_there c = c.in_ok-input.ensures.flag_is ∙ list_width c.args.values.now _ c.in_ok-input.ensures.holds _
 
-pub returns-then-values-gt-MOST_NUMBERS : goal.returns-then-values-gt-MOST_NUMBERS
-returns-then-values-gt-MOST_NUMBERS c = list_too_long _ _ _ _ c.if-n-gt-MOST_COMPONENTS.false c.if-values-gt-MOST_NUMBERS.true
+pub new-requires-clause-mask_there : goal.new-requires-clause-mask_there
+new-requires-clause-mask_there c = list_mask c.args.values.now _ c.in_ok-input.ensures.holds _
 
 pub returns : goal.returns
 returns c =
+    let a = c.args in
     let n = c.new.ensures in
-    rw (list_outcome c.new.result [] c.args.out.now n.input n.mask n.form c.if-n-gt-MOST_COMPONENTS.false refl c.if-values-gt-MOST_NUMBERS.false) at
-    c.patches.ensures
+    let f = subst (FromList a.values.now 1 a.n) (sym n.input) c.in_ok-input.ensures in
+    rw (list_outcome c.new.result _ a.form [] a.n _ n.mask n.form a.values.now f) at c.patches.ensures

@@ -107,8 +107,5 @@ abbrev pub finished_of : Records → Ranges → Finished Float
 finished_of m R = finished_in m.input.source m.input.layout m.mask m.form R
 
 -- the same by Decode's entries
-abbrev pub decoded_in : Source → Layout → ℕ → Form → List Float → Finished Float
-decoded_in S L mask form entries = finished_in S L mask form (held_ranges (range_list entries L.coord L.comp))
-
 abbrev pub decoded_of : Records → List Float → Finished Float
-decoded_of m entries = decoded_in m.input.source m.input.layout m.mask m.form entries
+decoded_of m entries = finished_of m (held_ranges (range_list entries m.input.layout.coord m.input.layout.comp))

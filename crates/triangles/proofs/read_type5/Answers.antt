@@ -1,6 +1,6 @@
 -- `triangles::read_type5` meets its contract: what is refused, else the core over the bits, whose rows are those of Decode. Assumes nothing.
 use Rattle.std.proofs.Common.{None, sym, subst}
-use Rattle.triangles.specs.Inner.Accepting.{FromBits}
+use Rattle.meshes.specs.Accepting.{FromBits}
 use Rattle.triangles.proofs.Ends.{type5_ended}
 use Rattle.triangles.proofs.read_type5.Goals as goal
 

@@ -1,8 +1,9 @@
--- `triangles::accepting::bits` meets its contract: each refusal in its order. Assumes nothing.
+-- `meshes::accepting::bits` meets its contract: each refusal in its order. Assumes nothing.
 use Rattle.std.proofs.Common.{sym, ◌∙◌}
 use Rattle.records.proofs.Layouts.{layout_widths}
-use Rattle.triangles.proofs.Refusing.{flag_few, unreadable, many_components, too_long}
-use Rattle.triangles.proofs.accepting.bits.Goals as goal
+use Rattle.meshes.proofs.Endings.{unreadable, many_components, too_long}
+use Rattle.meshes.proofs.Accepted.{flag_few}
+use Rattle.meshes.proofs.accepting.bits.Goals as goal
 
 pub returns-then-not-mesh_layout_is_readable : goal.returns-then-not-mesh_layout_is_readable
 returns-then-not-mesh_layout_is_readable c =
@@ -15,8 +16,8 @@ returns-then-n-gt-MOST_COMPONENTS c =
 
 pub returns-then-data-gt-MOST_BYTES : goal.returns-then-data-gt-MOST_BYTES
 returns-then-data-gt-MOST_BYTES c =
-    λ kind meaning mesh room.
-    too_long _ mesh _ room (sym c.mesh_layout_is_readable.ensures ∙ c.if-not-mesh_layout_is_readable.false) c.if-n-gt-MOST_COMPONENTS.false c.if-data-gt-MOST_BYTES.true
+    let readable = sym c.mesh_layout_is_readable.ensures ∙ c.if-not-mesh_layout_is_readable.false in
+    λ kind meaning mesh room. too_long _ mesh _ room readable c.if-n-gt-MOST_COMPONENTS.false c.if-data-gt-MOST_BYTES.true
 
 pub invariant_of-layout : goal.invariant_of-layout
 invariant_of-layout c =

@@ -1,6 +1,6 @@
 // The inputs that readers and builders take: past the tests of LAYOUT, COMPONENTS and LENGTH.
 ghost use Rattle.std.specs.Prelude.{MatchResult, ◌≤◌};
-ghost use Rattle.triangles.specs.Inner.Accepting.{FromBits, BitsRefused, FromList, ListRefused};
+ghost use Rattle.meshes.specs.Accepting.{FromBits, BitsRefused, FromList, ListRefused};
 
 use answers::Refusal;
 use records::layout::mesh_layout_is_readable;
