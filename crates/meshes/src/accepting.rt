@@ -1,5 +1,5 @@
 // The inputs that readers and builders take: past the tests of LAYOUT, COMPONENTS and LENGTH.
-ghost use Rattle.std.specs.Prelude.{MatchResult, ◌≤◌};
+ghost use Rattle.std.specs.Prelude.{MatchResult, cond};
 ghost use Rattle.meshes.specs.Accepting.{FromBits, BitsRefused, FromList, ListRefused};
 
 use answers::Refusal;
@@ -38,10 +38,9 @@ pub fn bits<'a>(
     })
 }
 
-// A list, whose flags take so many numbers: one, or none in Type 5.
-pub fn list(values: &[f64], flag: usize, n: usize) -> Result<Input, Refusal>
-    requires { flag ≤ 1 }
-    ensures { MatchResult result (FromList values.now flag n) (ListRefused values.now n) }
+// A list, in which a flag is one number; that of a type with no flags has none.
+pub fn list(values: &[f64], flagged: bool, n: usize) -> Result<Input, Refusal>
+    ensures { MatchResult result (FromList values.now (cond flagged 1 0) n) (ListRefused values.now n) }
 {
     if n > answers::MOST_COMPONENTS {
         return Err(Refusal::Components);
@@ -50,7 +49,7 @@ pub fn list(values: &[f64], flag: usize, n: usize) -> Result<Input, Refusal>
         return Err(Refusal::Length);
     }
     let layout = Layout {
-        flag,
+        flag: if flagged { 1 } else { 0 },
         coord: 1,
         comp: 1,
         n,

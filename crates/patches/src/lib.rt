@@ -40,7 +40,7 @@ fn parse_patches(
 fn build_patches(values: &[f64], n: usize, form: Form, out: &mut [f64]) -> Answer
     ensures { Done (built_form form values.now n (length out.old)) out.old result out.new }
 {
-    let input = accepting::list(values, 1, n)?;
+    let input = accepting::list(values, true, n)?;
     Records::new(input, rows::WHOLE_NUMBER, form).patches(&[], out)
 }
 

@@ -123,7 +123,7 @@ pub fn published_type5_mesh(
 fn build_type4(values: &[f64], n: usize, rule: Rule, out: &mut [f64]) -> Answer
     ensures { Done (build4 (triangles (rule_of rule)) values.now n (length out.old)) out.old result out.new }
 {
-    let input = accepting::list(values, 1, n)?;
+    let input = accepting::list(values, true, n)?;
     let vertices = Vertices::new(input, rows::WHOLE_NUMBER);
     free_form(&vertices, &[], rule, out)
 }
@@ -132,7 +132,7 @@ fn build_type4(values: &[f64], n: usize, rule: Rule, out: &mut [f64]) -> Answer
 fn build_type5(values: &[f64], n: usize, row: usize, out: &mut [f64]) -> Answer
     ensures { Done (build5 values.now n row (length out.old)) out.old result out.new }
 {
-    let input = accepting::list(values, 0, n)?;
+    let input = accepting::list(values, false, n)?;
     let vertices = Vertices::new(input, rows::WHOLE_NUMBER);
     lattice_form(&vertices, &[], row, out)
 }
