@@ -42,22 +42,6 @@ fn read_type4(
     free_form(&vertices, decode, Rule::TriangleBefore, out)
 }
 
-fn read_type5(
-    data: &[u8],
-    coord: usize,
-    comp: usize,
-    decode: &[f64],
-    n: usize,
-    row: usize,
-    out: &mut [f64],
-) -> Answer
-    ensures { Done (parse5 «data».now coord comp decode.now n row (length out.old)) out.old result out.new }
-{
-    let input = accepting::bits(data, coord, comp, None, decode, n)?;
-    let vertices = Vertices::new(input, rows::WHOLE_NUMBER);
-    lattice_form(&vertices, decode, row, out)
-}
-
 // The Type 4 reader of 000: a flag is the whole number.
 pub fn parse_type4_mesh(
     data: &[u8],
@@ -100,7 +84,9 @@ pub fn parse_type5_mesh(
 ) -> Answer
     ensures { Done (parse5 «data».now coord comp decode.now n row (length out.old)) out.old result out.new }
 {
-    read_type5(data, coord, comp, decode, n, row, out)
+    let input = accepting::bits(data, coord, comp, None, decode, n)?;
+    let vertices = Vertices::new(input, rows::WHOLE_NUMBER);
+    lattice_form(&vertices, decode, row, out)
 }
 
 // Type 5 as ISO 32000-1, 8.7.4.5.6, has it, but for what docs/DIFFERENCES.md lists: the same triangles.
@@ -115,7 +101,7 @@ pub fn published_type5_mesh(
 ) -> Answer
     ensures { Done (parse5 «data».now coord comp decode.now n row (length out.old)) out.old result out.new }
 {
-    read_type5(data, coord, comp, decode, n, row, out)
+    parse_type5_mesh(data, coord, comp, decode, n, row, out)
 }
 
 // ---- from a list of numbers
@@ -126,15 +112,6 @@ fn build_type4(values: &[f64], n: usize, rule: Rule, out: &mut [f64]) -> Answer
     let input = accepting::list(values, true, n)?;
     let vertices = Vertices::new(input, rows::WHOLE_NUMBER);
     free_form(&vertices, &[], rule, out)
-}
-
-// The vertices of a Type 5 list have no flag.
-fn build_type5(values: &[f64], n: usize, row: usize, out: &mut [f64]) -> Answer
-    ensures { Done (build5 values.now n row (length out.old)) out.old result out.new }
-{
-    let input = accepting::list(values, false, n)?;
-    let vertices = Vertices::new(input, rows::WHOLE_NUMBER);
-    lattice_form(&vertices, &[], row, out)
 }
 
 // The Type 4 builder of 000: it goes on from the last three vertices that it kept.
@@ -155,12 +132,14 @@ pub fn published_type4_from_array(values: &[f64], n: usize, out: &mut [f64]) -> 
 pub fn build_type5_from_array(values: &[f64], n: usize, row: usize, out: &mut [f64]) -> Answer
     ensures { Done (build5 values.now n row (length out.old)) out.old result out.new }
 {
-    build_type5(values, n, row, out)
+    let input = accepting::list(values, false, n)?;
+    let vertices = Vertices::new(input, rows::WHOLE_NUMBER);
+    lattice_form(&vertices, &[], row, out)
 }
 
 // ISO 32000-1, 8.7.4.5.6, read over the list: the same triangles.
 pub fn published_type5_from_array(values: &[f64], n: usize, row: usize, out: &mut [f64]) -> Answer
     ensures { Done (build5 values.now n row (length out.old)) out.old result out.new }
 {
-    build_type5(values, n, row, out)
+    build_type5_from_array(values, n, row, out)
 }

@@ -1,8 +1,8 @@
--- `triangles::read_type5` meets its contract: what is refused, else the core over the bits, whose rows are those of Decode. Assumes nothing.
+-- `triangles::parse_type5_mesh` meets its contract: what is refused, else the core over the bits, whose rows are those of Decode. Assumes nothing.
 use Rattle.std.proofs.Common.{None, sym, subst}
 use Rattle.meshes.specs.Accepting.{FromBits}
 use Rattle.triangles.proofs.Ends.{type5_ended}
-use Rattle.triangles.proofs.read_type5.Goals as goal
+use Rattle.triangles.proofs.parse_type5_mesh.Goals as goal
 
 pub returns : goal.returns
 returns c =
