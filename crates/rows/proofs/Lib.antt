@@ -7,4 +7,3 @@ pub mod Corners
 pub mod Masks
 pub mod Callers
 pub mod AnySource
-mod Rest

@@ -5,7 +5,7 @@ use mathlib.Core.Bool.{Bool, true, false, cond}
 use mathlib.Core.Logic.{inl, inr}
 use mathlib.Core.List.{List, [], ◌++◌, append-nil, append_assoc}
 use native.Mathlib.Omega.{arith}
-use native.Mathlib.Nat.{mul-le-mul_left, mul-le-mul_right, mul_comm, suc-mul, mul-le-mul, div-mul-le_self}
+use native.Mathlib.Nat.{mul-le-mul_right, mul_comm, suc-mul, mul-le-mul, div-mul-le_self}
 use borrow.Author.Tests.{ltb-true, ltb-false}
 use lib.ListN.{length, take, drop, length-append}
 use lib.Seq.{length-take-le}
@@ -28,12 +28,6 @@ use Rattle.triangles.specs.Inner.Cells.{Known, cell_numbers, cells_numbers, Abov
 pub stands_on : {o o' : List Float} {from size at p : ℕ} {xs row : List Float} → RowStands o from size at row → Written o o' at xs p → RowStands o' from size p row
 stands_on {o} {o'} {from} {size} {at} {p} {xs} {row} h w =
     record { before = omega (arith, h.before, w.after); held = part_before nan from size w h.before ∙ h.held }
-
--- a row of cells has one cell at least
-pub band_enough : (size : ℕ) {row : ℕ} → 2 ≤ row → 6 * size ≤ 6 * size * (row - 1)
-band_enough size {row} h =
-    let n : 1 ≤ row - 1 = omega arith in
-    omega (arith, mul-le-mul_left (6 * size) n)
 
 -- nor is it known less
 pub known_on : (from : Option ℕ) (size : ℕ) (row : List Float) {o o' : List Float} {at p : ℕ} {xs : List Float} → Known o from size at row → Written o o' at xs p

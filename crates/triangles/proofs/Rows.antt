@@ -20,16 +20,12 @@ use Rattle.triangles.specs.declared.vertices.Vertices.{Vertices}
 use Rattle.triangles.specs.Inner.Vertices.{flag_of_vertex, row_size, row_of_vertex}
 
 module _ (v : Vertices) (i : ℕ) (k : i < v.total) where
-  pub ends_there : i * v.size + v.size ≤ places v.input.source
+  ends_there : i * v.size + v.size ≤ places v.input.source
   ends_there = omega (arith, v.whole, mul-le-mul_right v.size k, suc-mul i v.size)
 
   -- its coordinates and components stand there
   stands : i * v.size + v.input.layout.flag + vertex_places v.input ≤ places v.input.source
   stands = omega (arith, ends_there, v.sized)
-
-  -- a usize counts every place of a vertex
-  pub place_small : i * v.size + v.input.layout.flag ≤ 134217728
-  place_small = omega (arith, ends_there, v.sized, v.input.short)
 
   pub flag_here : {f : ℕ} → 1 ≤ v.input.layout.flag → f ≡ flag_at v.input.source v.input.layout.flag (i * v.size) → masked v.mask f ≡ flag_of_vertex v i
   unfolding flag_of_vertex

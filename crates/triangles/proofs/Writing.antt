@@ -1,7 +1,7 @@
 -- The rows of the triangles that the vertices so far have given, and where the three stand from which to go on. Assumes nothing.
 use Prim.Native.Nat.{ℕ, ◌+◌, ◌-◌, ◌*◌, ◌≤◌, ◌<◌}
 use mathlib.Core.Path.{◌≡◌, refl, sym, ◌∙◌}
-use mathlib.Core.Bool.{Bool, true, false, cond}
+use mathlib.Core.Bool.{cond}
 use mathlib.Core.List.{List, [], ◌∷◌, ◌++◌, append-nil, append_assoc}
 use mathlib.Core.Option.{Option, none, some}
 use mathlib.Core.Logic.{⊎_elim}
@@ -194,19 +194,6 @@ module _ (row : ℕ → List Float) (size : ℕ) (sized : (i : ℕ) → length (
           go none v k = absurd (n k)
           go (some t) v k = record { t = t; walk_on = v; three = k }
 
-      -- both rows to copy stand before p, and a triangle more has room
-      pub record Ready : Type 0 where
-        pub room : p + 3 * size ≤ length o
-        pub enough : 3 * size ≤ p
-        pub first_before : first + size ≤ p
-
-      pub side_before : (f : ℕ) {side : ℕ} → Ready → side ≡ cond (eqb f 1) (p - 2 * size) first → side + size ≤ p
-      side_before f {side} r e = go (eqb f 1) e
-        where
-          go : (b : Bool) → side ≡ cond b (p - 2 * size) first → side + size ≤ p
-          go true e = omega (arith, r.enough)
-          go false e = omega (arith, r.first_before)
-
       module _ (h : i < total) (low : 1 ≤ flag i) (high : flag i < 3) (n : p ≡ 0 → ⊥) where
         joined_by : {C : Type 0} (b : Before)
             → (flag i ≡ 1 → Walk rule fs (i + 1) (w.done ++ (tri b.t.b b.t.c i ∷ [])) (some (tri b.t.b b.t.c i)) → C)
@@ -217,14 +204,11 @@ module _ (row : ℕ → List Float) (size : ℕ) (sized : (i : ℕ) → length (
             (λ (e : flag i ≡ 2). two e (walk_ac rule fs b.walk_on (rw length-flags h) (flag_here flag total h e)))
             (one_or_two (flag i) low high)
 
-        pub joined_ready : length tris * (3 * size) ≤ length l → Ready
-        joined_ready room =
+        -- a triangle more has room
+        pub joined_room : length tris * (3 * size) ≤ length l → p + 3 * size ≤ length o
+        joined_room room =
             let b = triangle_before_lem n in
-            record {
-              room = joined_by b (λ e v. room_for (tri b.t.b b.t.c i) v room) (λ e v. room_for (tri b.t.a b.t.c i) v room);
-              enough = b.three.enough;
-              first_before = b.three.va.before;
-            }
+            joined_by b (λ e v. room_for (tri b.t.b b.t.c i) v room) (λ e v. room_for (tri b.t.a b.t.c i) v room)
 
         pub joined_done : {o' : List Float} {q f side first' : ℕ} → f ≡ flag i → side ≡ cond (eqb f 1) (p - 2 * size) first
             → first' ≡ kept_index named f size p

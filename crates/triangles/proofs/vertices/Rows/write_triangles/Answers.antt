@@ -2,7 +2,7 @@
 -- stand where the locals say. Assumes nothing.
 use Rattle.std.proofs.Common.{arith, sym, ◌∙◌}
 use Rattle.triangles.specs.Inner.Vertices.{triangles_in}
-use Rattle.triangles.proofs.Writing.{writing_start, first_room, first_done, cut_short, all_done, joined_ready, joined_done, dropped_alone, dropped_far}
+use Rattle.triangles.proofs.Writing.{writing_start, first_room, first_done, cut_short, all_done, joined_room, joined_done, dropped_alone, dropped_far}
 use Rattle.triangles.proofs.vertices.Rows.write_triangles.Goals as goal
 use Rattle.triangles.proofs.vertices.Rows.write_triangles.Goals.{else-p-gt0-via-then-p-gt0+else-flag-lt3, else-p-gt0-via-else-p-gt0}
 
@@ -26,7 +26,7 @@ pub write_joined-p-requires-clause-room : goal.write_joined-p-requires-clause-ro
 unfolding triangles_in
 write_joined-p-requires-clause-room c =
     let e = sym c.flag-flag.ensures in
-    (joined_ready _ _ _ _ _ _ c.loop-i.invariant (omega arith) (omega arith) (omega arith) (λ z. omega arith) c.requires.room).room
+    joined_room _ _ _ _ _ _ c.loop-i.invariant (omega arith) (omega arith) (omega arith) (λ z. omega arith) c.requires.room
 
 pub loop-i-preserved-then-flag-lt3 : goal.loop-i-preserved-then-flag-lt3
 loop-i-preserved-then-flag-lt3 c =
