@@ -19,7 +19,7 @@ pub fn big_endian(bytes: &[u8]) -> u64
     number
 }
 
-// The number of k bytes from an index on; 0 for more than eight of them, and where not all are there.
+// The number of k bytes from an index on; 0 for more than eight of them, and where not all are there. Any index: so docs/PROMISES.md has it.
 pub fn big_endian_at(bytes: &[u8], at: usize, k: usize) -> u64
     ensures value { result ≡ big_endian_at_or0 bytes.now at k }
     ensures below { result < 256 ^ k }
@@ -36,7 +36,7 @@ pub fn big_endian_at(bytes: &[u8], at: usize, k: usize) -> u64
     big_endian(&bytes[at..at + k])
 }
 
-// The k floats from an index on to the front of out; nothing where not all bytes are there, or no room.
+// The k floats from an index on to the front of out; nothing where not all bytes are there, or no room. Any index: so docs/PROMISES.md has it.
 pub fn read_floats_at(bytes: &[u8], at: usize, k: usize, out: &mut [f64])
     ensures { out.new ≡ with_floats_at out.old bytes.now at k }
 {

@@ -38,7 +38,7 @@ pub fn bits<'a>(
     })
 }
 
-// A list, in which a flag is one number; that of a type with no flags has none.
+// A list, in which a flag is one number; that of a type with no flags has none. So there are two ways, and a bool says which.
 pub fn list(values: &[f64], flagged: bool, n: usize) -> Result<Input, Refusal>
     ensures { MatchResult result (FromList values.now (cond flagged 1 0) n) (ListRefused values.now n) }
 {

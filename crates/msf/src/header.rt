@@ -87,7 +87,8 @@ impl<'a> Header<'a> {
         }
     }
 
-    // Reads the mesh with the ported reader of its type.
+    // Reads the mesh with the ported reader of its type. As of `Call` in `replay`, whose file has a layout of its own; neither crate stands on the
+    // other.
     fn read_decoded(&self, decode: &[f64], numbers: &mut [f64]) -> Answer
         ensures { let h = self.now in Done (ported_reader h.kind h.«data».now h.coord h.comp h.flag decode.now h.components h.row (length numbers.old)) numbers.old result numbers.new }
     {

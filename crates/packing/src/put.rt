@@ -9,7 +9,7 @@ ghost use Rattle.packing.specs.Inner.Passes.{fits, run_bits, record_fits, record
 use crate::waiting::Waiting;
 use records::mesh::{Mesh, Rest};
 
-// Stores the low count bytes of a number, high first.
+// Stores the low count bytes of a number, high first, from an index on: a part of the output would be named by the same two numbers.
 fn store(number: u64, count: usize, at: usize, out: &mut [u8])
     requires few { count ≤ 8 }
     requires room { at + count ≤ length out.old }

@@ -1,5 +1,5 @@
 // The patches, written one after the other: counted first, then each number decoded once, straight into the output. The side that a patch takes
-// over is copied from the patch before, which stands right before it.
+// over is copied from the patch before, which stands right before it. The output and the index stand side by side, as in `rows`.
 ghost use Rattle.std.specs.Prelude.{◌≡◌, ◌+◌, ◌-◌, ◌*◌, ◌<◌, ◌≤◌, length};
 ghost use Rattle.lists.specs.Lists.{AllBelow, flat};
 ghost use Rattle.lists.specs.Writing.{Written};

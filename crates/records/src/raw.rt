@@ -1,4 +1,5 @@
-// The four raw readers: the numbers before Decode, flags included, complete records only.
+// The four raw readers: the numbers before Decode, flags included, complete records only. The output and the index stand side by side, as in
+// `Written`, by which their contracts speak.
 ghost use Rattle.std.specs.Prelude.{◌≡◌, ◌∷◌, ◌+◌, ◌*◌, ◌/◌, ◌≤◌, ◌<◌, length, get_or, replicate};
 ghost use Rattle.lists.specs.Writing.{Written};
 ghost use Rattle.answers.specs.Outcome.{Done};
@@ -22,7 +23,8 @@ struct Record {
 }
 
 impl Stream<'_> {
-    // The first number of the record at a place. That of the first record goes by `bits::read_seldom`: with a second caller it stays out of the loops that read.
+    // The first number of the record at a place. That of the first record goes by `bits::read_seldom`: with a second caller it stays out of the loops
+    // that read.
     fn read_first(self, at: BitPos, started: bool) -> Option<(u32, BitPos)>
         ensures { result ≡ read_at self.entry.bytes.now at.0 self.entry.mesh.first }
     {

@@ -50,7 +50,7 @@ impl Function {
 }
 
 impl Call {
-    // As of `Header` in `msf`, whose file has a layout of its own.
+    // As of `Header` in `msf`, whose file has a layout of its own; neither crate stands on the other.
     fn read(self, kind: Kind, data: &[u8], decode: &[f64], out: &mut [f64]) -> Answer
         ensures { Done (ported_reader kind «data».now self.coord self.comp self.flag decode.now self.n self.row (length out.old))
             out.old result out.new }

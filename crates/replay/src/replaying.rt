@@ -40,6 +40,7 @@ impl fmt::Display for Seen {
 }
 
 // A stored case: the call, the indices of its input and of what follows the case, how many numbers the output has, and the answer that is stored.
+// Indices, since the second is the case's size too.
 #[derive(Clone, Copy)]
 pub struct Case {
     pub call: Call,

@@ -15,7 +15,8 @@ use crate::{Decoded, Place, Source, writing};
 use bits::BitPos;
 use decode::Range;
 
-// ---- in bits, which are there. What a loop needs are plain parameters: what is behind a reference is loaded for each number.
+// ---- in bits, which are there. What a loop needs are plain parameters: what is behind a reference is loaded for each number. What reads numbers is
+// put into its callers, so that they stay in registers.
 
 // The number of so many bits at a place. It is put into each caller, where the read itself is weighed.
 #[inline(always)]

@@ -113,7 +113,7 @@ fn copy_four(out: &mut [f64], from: usize, at: usize) -> usize
     copy_part(out, from + 3, 1, q)
 }
 
-// A colour's eight numbers and its n components.
+// A colour's eight numbers and its n components, of one output: see `copy_part`.
 pub fn copy_colour(out: &mut [f64], from: usize, n: usize, at: usize) -> usize
     requires before { from + (8 + n) ≤ at }
     requires room { at + (8 + n) ≤ length out.old }
@@ -125,7 +125,7 @@ pub fn copy_colour(out: &mut [f64], from: usize, n: usize, at: usize) -> usize
     copy_part(out, from + 8, n, q)
 }
 
-// The row of a vertex: two numbers and a colour.
+// The row of a vertex, of one output: two numbers and a colour.
 pub fn copy_row(out: &mut [f64], from: usize, n: usize, at: usize) -> usize
     requires before { from + (10 + n) ≤ at }
     requires room { at + (10 + n) ≤ length out.old }

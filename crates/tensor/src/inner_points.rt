@@ -16,7 +16,7 @@ pub trait Coordinate: Copy {
         ensures { result ≡ turning.inner a b c d e f g h };
 }
 
-// The inner four along an axis, each at every second place.
+// The inner four along an axis, each at every second place. Each caller has an axis of its own, so it may go into them.
 #[inline]
 pub fn write_along<C: Coordinate>(border: &[C; 24], axis: usize, out: &mut [C::Inner])
     requires x_or_y { axis ≤ 1 }

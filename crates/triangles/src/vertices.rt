@@ -1,4 +1,4 @@
-// The vertices of a mesh, in bits or in a list of numbers, and their rows in a lent output.
+// The vertices of a mesh, in bits or in a list of numbers, and their rows in a lent output. The output and the index stand side by side, as in `rows`.
 ghost use Rattle.std.specs.Prelude.{◌≡◌, ◌+◌, ◌*◌, ◌≤◌};
 ghost use Rattle.rows.specs.Inner.Sources.{places, mask_in};
 ghost use Rattle.rows.specs.Inner.Placing.{vertex_places};
