@@ -7,7 +7,6 @@ pub mod ListedPatches
 pub mod ReadPatches
 pub mod Ranges
 pub mod Endings
-pub mod Accepted
 pub mod TriangleReadings
 pub mod PatchReadings
 pub mod FlagReadings

@@ -18,8 +18,8 @@ use Rattle.rules.specs.Patches.{sides, list_sides}
 use Rattle.rules.specs.Meshes.{Finished, patch_mesh}
 use Rattle.meshes.specs.Decoded.{by_decode, as_listed}
 use Rattle.meshes.specs.Outcomes.{fitted_mesh, Stream, raw_of}
-use Rattle.meshes.specs.Accepting.{HoldsBits, HoldsList, FromBits, FromList}
-use Rattle.meshes.proofs.Accepted.{bits_short}
+use Rattle.accepting.specs.Inner.Accepting.{HoldsBits, HoldsList, FromBits, FromList}
+use Rattle.accepting.proofs.Accepted.{bits_short}
 use Rattle.meshes.proofs.Endings.{accepted, list_accepted}
 use Rattle.meshes.proofs.FlagReadings.{Kept, type6_kept, type7_kept, word_outcome}
 use Rattle.meshes.proofs.Ranges.{patches_alike}

@@ -13,7 +13,6 @@ ghost use Rattle.patches.specs.Inner.Forms.{parsed_form, built_form};
 use crate::finding::Records;
 use crate::forms::Form;
 use answers::Answer;
-use meshes::accepting;
 
 mod finding;
 mod forms;

@@ -30,8 +30,8 @@ use Rattle.rules.specs.Triangles.{Tri, triangle_before, triangles, corners}
 use Rattle.rules.specs.Lattice.{lattice}
 use Rattle.rules.specs.Meshes.{Finished, finished, type4_mesh, type5_mesh}
 use Rattle.meshes.specs.Outcomes.{fitted_mesh, Stream, raw_of, parse4, parse5, build4, build5}
-use Rattle.meshes.specs.Accepting.{FromBits, FromList, HoldsBits, HoldsList}
-use Rattle.meshes.proofs.Accepted.{bits_short}
+use Rattle.accepting.specs.Inner.Accepting.{FromBits, FromList, HoldsBits, HoldsList}
+use Rattle.accepting.proofs.Accepted.{bits_short}
 use Rattle.meshes.proofs.Endings.{accepted, list_accepted}
 use Rattle.meshes.proofs.Ranges.{type4_alike, type5_alike}
 use Rattle.meshes.proofs.TriangleMeshes.{free_form, lattice_form, mesh_of_type4, mesh_of_type5, mesh_of_list4, mesh_of_list5}

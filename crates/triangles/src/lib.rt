@@ -16,7 +16,6 @@ use crate::free_form::{Rule, free_form};
 use crate::lattice_form::lattice_form;
 use crate::vertices::Vertices;
 use answers::Answer;
-use meshes::accepting;
 
 mod free_form;
 mod lattice_form;

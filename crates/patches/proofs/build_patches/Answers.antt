@@ -1,7 +1,7 @@
 -- `build_patches` meets its contract: what is refused, else the patches of the list. Assumes nothing.
 use Rattle.std.proofs.Common.{[], sym, subst, ◌∙◌}
-use Rattle.meshes.specs.Accepting.{FromList}
-use Rattle.meshes.proofs.Accepted.{list_width, list_mask}
+use Rattle.accepting.specs.Inner.Accepting.{FromList}
+use Rattle.accepting.proofs.Accepted.{list_width, list_mask}
 use Rattle.patches.proofs.Starting.{list_outcome}
 use Rattle.patches.proofs.build_patches.Goals as goal
 

@@ -1,7 +1,7 @@
 -- `parse_patches` meets its contract: what is refused, else the patches of the bits, whose rows are those of Decode. Assumes nothing.
 use Rattle.std.proofs.Common.{Some, sym, subst}
-use Rattle.meshes.specs.Accepting.{FromBits}
-use Rattle.meshes.proofs.Accepted.{flag_some, bits_width, bits_mask}
+use Rattle.accepting.specs.Inner.Accepting.{FromBits}
+use Rattle.accepting.proofs.Accepted.{flag_some, bits_width, bits_mask}
 use Rattle.patches.proofs.Starting.{bits_outcome}
 use Rattle.patches.proofs.parse_patches.Goals as goal
 

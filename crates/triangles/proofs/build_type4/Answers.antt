@@ -1,6 +1,6 @@
 -- `triangles::build_type4` meets its contract: what is refused, else the core over the list. Assumes nothing.
 use Rattle.std.proofs.Common.{sym, subst}
-use Rattle.meshes.specs.Accepting.{FromList}
+use Rattle.accepting.specs.Inner.Accepting.{FromList}
 use Rattle.triangles.proofs.Ends.{list4_ended}
 use Rattle.triangles.proofs.build_type4.Goals as goal
 

@@ -1,6 +1,6 @@
 -- `triangles::parse_type5_mesh` meets its contract: what is refused, else the core over the bits, whose rows are those of Decode. Assumes nothing.
 use Rattle.std.proofs.Common.{None, sym, subst}
-use Rattle.meshes.specs.Accepting.{FromBits}
+use Rattle.accepting.specs.Inner.Accepting.{FromBits}
 use Rattle.triangles.proofs.Ends.{type5_ended}
 use Rattle.triangles.proofs.parse_type5_mesh.Goals as goal
 

@@ -1,7 +1,7 @@
 -- `triangles::read_type4` meets its contract: what is refused, else the core over the bits, whose rows are those of Decode. Assumes nothing.
 use Rattle.std.proofs.Common.{Some, sym, subst}
-use Rattle.meshes.specs.Accepting.{FromBits}
-use Rattle.meshes.proofs.Accepted.{flag_some}
+use Rattle.accepting.specs.Inner.Accepting.{FromBits}
+use Rattle.accepting.proofs.Accepted.{flag_some}
 use Rattle.triangles.proofs.Ends.{type4_ended}
 use Rattle.triangles.proofs.read_type4.Goals as goal
 

@@ -1,9 +1,9 @@
--- `meshes::accepting::bits` meets its contract: each refusal in its order. Assumes nothing.
+-- `accepting::bits` meets its contract: each refusal in its order. Assumes nothing.
 use Rattle.std.proofs.Common.{sym, ◌∙◌}
 use Rattle.records.proofs.Layouts.{layout_widths}
 use Rattle.meshes.proofs.Endings.{unreadable, many_components, too_long}
-use Rattle.meshes.proofs.Accepted.{flag_few}
-use Rattle.meshes.proofs.accepting.bits.Goals as goal
+use Rattle.accepting.proofs.Accepted.{flag_few}
+use Rattle.accepting.proofs.bits.Goals as goal
 
 pub returns-then-not-mesh_layout_is_readable : goal.returns-then-not-mesh_layout_is_readable
 returns-then-not-mesh_layout_is_readable c =

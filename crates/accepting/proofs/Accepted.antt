@@ -15,7 +15,7 @@ use Rattle.rows.specs.declared.Source.{Source}
 use Rattle.rows.specs.declared.Source.TheVariants.{Bits, List as Listed}
 use Rattle.rows.specs.declared.Input.{Input}
 use Rattle.rows.specs.Inner.Sources.{places, width_in, mask_in}
-use Rattle.meshes.specs.Accepting.{HoldsBits, HoldsList, FromBits}
+use Rattle.accepting.specs.Inner.Accepting.{HoldsBits, HoldsList, FromBits}
 
 pub flag_few : (flag : Option ℕ) (coord : ℕ) → Width (first_width flag coord) → unwrap_or flag 0 ≤ 32
 flag_few (Some flag) coord w = w.few_bits

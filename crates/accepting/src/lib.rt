@@ -1,6 +1,8 @@
-// The inputs that readers and builders take: past the tests of LAYOUT, COMPONENTS and LENGTH.
+// The inputs that readers and builders take: past the tests of LAYOUT, COMPONENTS and LENGTH, which all mesh types ask for alike.
+#![tactic(auto)]
+
 ghost use Rattle.std.specs.Prelude.{MatchResult, cond};
-ghost use Rattle.meshes.specs.Accepting.{FromBits, BitsRefused, FromList, ListRefused};
+ghost use Rattle.accepting.specs.Inner.Accepting.{FromBits, BitsRefused, FromList, ListRefused};
 
 use answers::Refusal;
 use records::layout::mesh_layout_is_readable;

@@ -1,6 +1,6 @@
--- `meshes::accepting::list` meets its contract: each refusal in its order. Assumes nothing.
+-- `accepting::list` meets its contract: each refusal in its order. Assumes nothing.
 use Rattle.meshes.proofs.Endings.{list_components, list_too_long}
-use Rattle.meshes.proofs.accepting.list.Goals as goal
+use Rattle.accepting.proofs.list.Goals as goal
 
 pub returns-then-n-gt-MOST_COMPONENTS : goal.returns-then-n-gt-MOST_COMPONENTS
 returns-then-n-gt-MOST_COMPONENTS c = λ mesh room. list_components mesh _ _ room c.if-n-gt-MOST_COMPONENTS.true
