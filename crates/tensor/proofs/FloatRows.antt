@@ -48,7 +48,7 @@ float_row n vs l size eight =
 
 -- ---- all rows
 
-next_place : (k size : ℕ) → (k + 1) * size ≡ k * size + size
+pub next_place : (k size : ℕ) → (k + 1) * size ≡ k * size + size
 next_place k size = rw (add-one, suc-mul)
 
 whole_times : (x k : ℕ) → 0 < k → x % k ≡ 0 → x ≡ x / k * k

@@ -138,7 +138,7 @@ module _ (n : ℕ) (own : List ℕ) where
   module _ {before : Option Coons} {flag : ℕ} {b : Coons} (came : before ≡ Some b) (eight : length b.side ≡ 8) (sized : IfSome before (Sized n))
       (c : Coons) {r0 rest : List ℕ} (there : size_after 8 n flag ≤ length own)
       (others : c.others.now ≡ take 16 own) (e0 : r0 ≡ drop 16 own) (last : c.c33_c30.now ≡ take (2 * n) r0) (e1 : rest ≡ drop (2 * n) r0) where
-    takes_joined : (f : ℕ) (s : Places) → flag ≡ suc f → get_elem? sides f ≡ some s
+    pub takes_joined : (f : ℕ) (s : Places) → flag ≡ suc f → get_elem? sides f ≡ some s
         → at (groups 0 b.side 0 4 2 ++ groups 0 b.others.now 0 8 2) s.points ≡ groups 0 c.side 0 4 2
         → at (b.c00.now ∷ b.c03.now ∷ take n b.c33_c30.now ∷ drop n b.c33_c30.now ∷ []) s.colours ≡ c.c00.now ∷ c.c03.now ∷ []
         → length c.c00.now ≡ n → length c.c03.now ≡ n

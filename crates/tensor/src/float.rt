@@ -20,6 +20,16 @@ impl Coordinate for f64 {
     }
 }
 
+// Numbers copied one by one: `copy_from_slice` on a length that isn't known would call the C library.
+fn copy(values: &[f64], out: &mut [f64])
+    requires as_many { length out.old ≡ length values.now }
+    ensures { out.new ≡ values.now }
+{
+    for (k, place) in out.iter_mut().enumerate() {
+        *place = values[k];
+    }
+}
+
 // A patch: its border, the inner four, its colours.
 fn write_patch(patch: &[f64], row: &mut [f64])
     requires border { 24 ≤ length patch.now }
@@ -35,7 +45,7 @@ fn write_patch(patch: &[f64], row: &mut [f64])
     outer.copy_from_slice(&border);
     write_along(&border, 0, inner);
     write_along(&border, 1, inner);
-    rest.copy_from_slice(colours);
+    copy(colours, rest);
 }
 
 // The patches of whole records.

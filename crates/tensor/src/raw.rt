@@ -42,11 +42,15 @@ pub fn count_patches(numbers: &[u32], n: usize) -> Option<usize>
     ensures few_patches { IfSome result (λ count. count ≤ length numbers.now) }
 {
     let mut count: usize = 0;
-    let mut rest = numbers;
-    while let Some((flag, own)) = rest.split_first() { // each record tells how many numbers it takes
-        let Shape { coords, colours } = Kind::Six.shape(0 < count, *flag)?;
-        rest = own.get(coords + colours * n..)?;
+    let mut i: usize = 0; // an index is quicker here than what is left as a slice
+    while i < numbers.len() { // each record tells how many numbers it takes
+        let Shape { coords, colours } = Kind::Six.shape(0 < count, numbers[i])?;
+        let next = i + 1 + coords + colours * n;
+        if numbers.len() < next {
+            return None;
+        }
         count += 1;
+        i = next;
     }
     Some(count)
 }
@@ -144,14 +148,15 @@ fn write_times(numbers: &[u32], factor: u64, out: &mut [i64])
     }
 }
 
-// The colours of a patch, unchanged. Out of line, since the loop over long lists is faster so.
-#[inline(never)]
-fn write_colours(c00: &[u32], c03: &[u32], c33_c30: &[u32], out: &mut [i64])
+// The colours of a patch, unchanged. By n, not by the slices' lengths: these would be carried from patch to patch.
+fn write_colours(c00: &[u32], c03: &[u32], c33_c30: &[u32], n: usize, out: &mut [i64])
+    requires first { length c00.now ≡ n }
+    requires second { length c03.now ≡ n }
     requires as_many { length out.old ≡ length c00.now + length c03.now + length c33_c30.now }
     ensures { out.new ≡ map pos (c00.now ++ (c03.now ++ c33_c30.now)) }
 {
-    let (first, rest) = out.split_at_mut(c00.len());
-    let (second, last) = rest.split_at_mut(c03.len());
+    let (first, rest) = out.split_at_mut(n);
+    let (second, last) = rest.split_at_mut(n);
     write_times(c00, 1, first);
     write_times(c03, 1, second);
     write_times(c33_c30, 1, last);
@@ -172,7 +177,7 @@ fn write_patch(patch: &Coons, n: usize, row: &mut [i64])
     write_times(&border, 9, outer);
     write_along(&border, 0, inner);
     write_along(&border, 1, inner);
-    write_colours(patch.c00, patch.c03, patch.c33_c30, colours);
+    write_colours(patch.c00, patch.c03, patch.c33_c30, n, colours);
 }
 
 pub fn write_patches(numbers: &[u32], n: usize, out: &mut [i64])

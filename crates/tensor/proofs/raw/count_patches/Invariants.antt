@@ -1,16 +1,18 @@
 -- `tensor::raw::count_patches` meets its contract. Assumes nothing.
-use Prim.Native.Nat.{◌+◌, ◌≤◌}
+use Prim.Native.Nat.{◌-◌, ◌≤◌}
 use mathlib.Core.Path.{◌≡◌}
 use mathlib.Core.List.{List}
 use mathlib.Core.Option.{Option}
-use lib.ListN.{length}
+use lib.ListN.{length, drop}
 use Rattle.tensor.specs.Inner.Standing.{Raw}
 use Rattle.tensor.proofs.Walk.{Walk}
 use Rattle.tensor.proofs.raw.count_patches.Given as goal
 
-abbrev pub invariant-loop-flag : goal.invariant-loop-flag
-invariant-loop-flag l =
-    (l.count + length l.rest ≤ length l.numbers) × ((b : Option Raw) × ((done : List Raw) × (Walk l.n l.numbers b l.rest done × (length done ≡ l.count))))
+abbrev pub invariant-loop-i : goal.invariant-loop-i
+invariant-loop-i l =
+    (l.i ≤ length l.numbers)
+    × (l.count ≤ l.i)
+    × ((b : Option Raw) × ((done : List Raw) × (Walk l.n l.numbers b (drop l.i l.numbers) done × (length done ≡ l.count))))
 
-abbrev pub decreases-loop-flag : goal.decreases-loop-flag
-decreases-loop-flag l = length l.rest
+abbrev pub decreases-loop-i : goal.decreases-loop-i
+decreases-loop-i l = length l.numbers - l.i
