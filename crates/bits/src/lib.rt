@@ -77,7 +77,8 @@ fn field(data: &[u8], offset: usize, n: usize) -> u32
 }
 
 // Reads n bits at a place, as `read` does, for a number that is read now and then. It hands on a part of the slice and never the slice itself, so
-// that a caller can keep the slice in registers.
+// that a caller can keep the slice in registers. It is never put into a caller: the loops that read would be too large.
+#[inline(never)]
 pub fn read_seldom(data: &[u8], at: BitPos, n: usize) -> Option<(u32, BitPos)>
     ensures { result ≡ read_at «data».now at.0 n }
 {

@@ -9,6 +9,7 @@ use answers::Refusal;
 
 impl Mesh {
     // The mesh of a type at given widths; LAYOUT or COMPONENTS where it can't be read.
+    #[tactic(auto, unfolding(crate::specs::Inner::Walk::tested))]
     pub fn new(
         kind: Kind,
         first: usize,

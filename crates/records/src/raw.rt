@@ -3,7 +3,6 @@
 ghost use Rattle.std.specs.Prelude.{◌≡◌, ◌∷◌, ◌+◌, ◌*◌, ◌/◌, ◌≤◌, ◌<◌, length, get_or, replicate};
 ghost use Rattle.lists.specs.Writing.{Written};
 ghost use Rattle.answers.specs.Outcome.{Done};
-ghost use Rattle.bits.specs.Reading.{read_at};
 ghost use Rattle.records.specs.declared.shape.Kind.TheVariants as Kind;
 ghost use Rattle.records.specs.Format.{raw_reading};
 ghost use Rattle.records.specs.Raw.{raw_read};
@@ -23,23 +22,14 @@ struct Record {
 }
 
 impl Stream<'_> {
-    // The first number of the record at a place. That of the first record goes by `bits::read_seldom`: with a second caller it stays out of the loops
-    // that read.
-    fn read_first(self, at: BitPos, started: bool) -> Option<(u32, BitPos)>
-        ensures { result ≡ read_at self.entry.bytes.now at.0 self.entry.mesh.first }
-    {
-        if started {
-            return bits::read(self.bytes, at, self.mesh.first);
-        }
-        bits::read_seldom(self.bytes, at, self.mesh.first)
-    }
-
     // The record at a place; None where the reading ends.
     fn find_record(self, started: bool, at: BitPos) -> Option<Record>
         requires { at.0 ≤ 8 * length self.bytes.now }
         ensures { FoundAt self.entry.mesh self.entry.bytes.now started at.0 result }
     {
-        let (first, _) = self.read_first(at, started)?;
+        let Some((first, _)) = bits::read(self.bytes, at, self.mesh.first) else {
+            return None;
+        };
         let rest = self.mesh.rest(started, first)?;
         let end = at.0 + self.mesh.record_size(rest);
         if end > 8 * self.bytes.len() {
