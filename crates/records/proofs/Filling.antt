@@ -111,7 +111,7 @@ module _ {m : Mesh} {s l o : List ℕ} {count p at : ℕ} {started : Bool} (w : 
     -- a patch's flag has been written
     module _ {o' : List ℕ} {q : ℕ} (v : Written o o' p (numbers_at s at (replicate 1 m.first)) q) where
       pub patch_goes_on : shape_of m.kind started (get_or o' p 0) ≡ ends → ⊥
-      patch_goes_on e = goes_on (mesh_ends m s started at w.within _ (run_of_one s at m.first v) (sym e))
+      patch_goes_on e = goes_on (mesh_ends m.kind m.first m.coord m.comp m.n s started at w.within _ (run_of_one s at m.first v) (sym e))
 
       pub patch_turn : {coords comps : ℕ} → Follow m started (get_or o' p 0) coords comps → Turn m s o count p at started coords comps
       patch_turn e = record_turn (run_of_one s at m.first v) e (dec_le _ (8 * length s))

@@ -7,9 +7,10 @@ use mathlib.Core.Option.{some, none, some-injective, none-ne-some}
 use native.Mathlib.Omega.{arith}
 use lib.ListN.{length, take, drop, replicate, length-append, length-replicate}
 use Rattle.bits.specs.Bits.{number, stream, field_at}
+use Rattle.records.specs.declared.shape.Kind.{Kind}
 use Rattle.records.specs.Following.{Following, follows, ends}
 use Rattle.records.specs.declared.mesh.Mesh.{Mesh}
-use Rattle.records.specs.Format.{sum, shape_of, widths_of, next}
+use Rattle.records.specs.Format.{sum, shape_of, widths_of, format, next}
 use Rattle.records.specs.Inner.Walk.{format_of, widths_after, Follow, record_size, Standing}
 use Rattle.records.proofs.Readings.{length_from, sum-append, sum-replicate, next_none, next_fits}
 
@@ -32,27 +33,30 @@ end_more m started x e = rw e
 
 -- ---- whether there is a record
 
+module _ (kind : Kind) (first coord comp n : ℕ) (s : List ℕ) (started : Bool) (p : ℕ) (within : p ≤ 8 * length s) (lead : ℕ)
+    (value : lead ≡ field_at s p first) where
+  more_is : {h : Following} → h ≡ shape_of kind started lead
+      → (format kind first coord comp n).more started (number (take first (drop p (stream s)))) ≡ widths_of coord comp n h
+  unfolding field_at
+  more_is e = rw (e, value)
+
+  -- of any widths and components, also of those that no mesh has
+  pub mesh_ends : ends ≡ shape_of kind started lead → next (format kind first coord comp n) started (drop p (stream s)) ≡ none
+  mesh_ends e =
+      next_none (format kind first coord comp n) started (drop p (stream s)) (λ ws q. absurd (none-ne-some ws (sym (more_is e) ∙ q)))
+
 module _ (m : Mesh) (s : List ℕ) (started : Bool) (p : ℕ) (within : p ≤ 8 * length s) where
   -- not even its first number
   pub no_first_number : 8 * length s < p + m.first → next (format_of m) started (drop p (stream s)) ≡ none
   no_first_number h = next_none (format_of m) started (drop p (stream s)) (λ ws e. omega (arith, length_from s p within))
 
   module _ (lead : ℕ) (value : lead ≡ field_at s p m.first) where
-    more_is : {h : Following} → h ≡ shape_of m.kind started lead
-        → (format_of m).more started (number (take m.first (drop p (stream s)))) ≡ widths_of m.coord m.comp m.n h
-    unfolding field_at
-    more_is e = rw (e, value)
-
-    pub mesh_ends : ends ≡ shape_of m.kind started lead → next (format_of m) started (drop p (stream s)) ≡ none
-    mesh_ends e =
-        next_none (format_of m) started (drop p (stream s)) (λ ws q. absurd (none-ne-some ws (sym (more_is e) ∙ q)))
-
     module _ {coords comps : ℕ} (e : Follow m started lead coords comps) where
       widths_is : widths_of m.coord m.comp m.n (follows coords e.colours) ≡ some (widths_after m coords comps)
       widths_is = rw (← e.comps_are)
 
       more_rest : (format_of m).more started (number (take m.first (drop p (stream s)))) ≡ some (widths_after m coords comps)
-      more_rest = more_is (sym e.shape) ∙ widths_is
+      more_rest = more_is m.kind m.first m.coord m.comp m.n s started p within lead value (sym e.shape) ∙ widths_is
 
       pub record_cut : 8 * length s < p + record_size m coords comps → next (format_of m) started (drop p (stream s)) ≡ none
       record_cut h =
