@@ -42,7 +42,7 @@ module _ (h : Header) {entry exit : List Float} where
     unfolding answer_to
     sized = reader_sized h.kind h.data.now h.coord h.comp h.flag _ h.components h.row begun.is
 
-    mesh_listable : IsListable h.kind h.components count
+    pub mesh_listable : IsListable h.kind h.components count
     mesh_listable =
         let z = sized in
         let room : count * stride_of h.kind h.components ≤ 8192 = rw (← z.long) z.fits in

@@ -10,6 +10,14 @@ pub struct Text<'a> {
     pub at: usize,
 }
 
+// The byte of a digit in any base up to 16. Numbers are not printed by `write!`: that answers an error, and here the room is proved.
+fn glyph(digit: u32) -> u8
+    requires in_base { digit < 16 }
+    ensures { result ≡ glyph digit }
+{
+    char::from_digit(digit, 16).unwrap() as u8
+}
+
 impl<'a> Text<'a> {
     pub fn new(out: &'a mut [u8]) -> Text<'a>
         ensures same_output { result.out.ghost_name ≡ out.entry.ghost_name }
@@ -36,13 +44,13 @@ impl<'a> Text<'a> {
         self.at = end;
     }
 
-    // A digit in any base up to 16. Numbers are not printed by `write!`: that answers an error, and here the room is proved.
+    // A digit in any base up to 16.
     pub fn put_digit(&mut self, digit: u32)
         requires in_base { digit < 16 }
         requires room { self.old.at + 1 ≤ length self.old.out.now }
         ensures { Appends self.old self.new (glyph digit ∷ []) }
     {
-        self.put_byte(char::from_digit(digit, 16).unwrap() as u8);
+        self.put_byte(glyph(digit));
     }
 
     // The 16 digits of a float's bits in base 16; a NaN's bits are not asked for.
@@ -55,9 +63,11 @@ impl<'a> Text<'a> {
             return self.put_bytes(b"nan");
         }
         let bits = x.to_bits();
-        for k in (0..16u32).rev() {
-            self.put_digit(((bits >> (4 * k)) % 16) as u32);
+        let mut digits = [0u8; 16]; // put at once, since each byte that is put alone loads and stores the text's fields
+        for k in 0..16usize {
+            digits[k] = glyph(((bits >> (60 - 4 * k)) % 16) as u32);
         }
+        self.put_bytes(&digits);
     }
 
     // A number in base 10.
