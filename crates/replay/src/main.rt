@@ -84,23 +84,26 @@ fn read_full(reader: &mut impl Read, buffer: &mut [u8]) -> usize
     done
 }
 
-// Replays the file that an argument names, and prints its tally.
-fn replay_argument(rt: &(impl Files + Print), name: &str) -> io::Result<()> {
+// Replays the file that an argument names, and prints its tally. A line that can't be printed is let go here too, so that the files after it are
+// replayed.
+fn replay_argument(rt: &(impl Files + Print), name: &str) {
     let Ok(mut reader) = File::open(rt, name) else {
-        return println!(rt; "{name}: can't be opened");
+        let _ = println!(rt; "{name}: can't be opened");
+        return;
     };
     let mut file = [0u8; 65536];
     let n = read_full(&mut reader, &mut file);
     if n == file.len() {
-        return println!(rt; "{name}: too long");
+        let _ = println!(rt; "{name}: too long");
+        return;
     }
     let Tally { agree, disagree } = replay_file(rt, name, &file[..n]);
-    println!(rt; "{name}: {agree} agree, {disagree} disagree")
+    let _ = println!(rt; "{name}: {agree} agree, {disagree} disagree");
 }
 
 fn main(rt: HostRuntime) -> io::Result<()> {
     for name in env::args(&rt)?.skip(1) {
-        replay_argument(&rt, name.as_str())?;
+        replay_argument(&rt, name.as_str());
     }
     Ok(())
 }
