@@ -1,10 +1,10 @@
 -- Numbers that stand high byte first: one byte more, up to eight fit a word, and what is read where all or not all is there. Assumes nothing.
-use Rattle.std.proofs.Common.{◌≡◌, ℕ, zero, suc, ◌+◌, ◌*◌, ◌^◌, ◌<◌, ◌≤◌, List, length, get_or, take, drop, refl, ap, ap₂, zero-add, length-take, length-drop, ◌-◌, ◌∙◌, add-one, arith, le-leb}
+use Rattle.std.proofs.Common.{◌≡◌, ℕ, zero, suc, ◌+◌, ◌*◌, ◌^◌, ◌<◌, ◌≤◌, List, length, get_or, take, drop, refl, sym, ap, ap₂, zero-add, length-take, length-drop, ◌-◌, ◌∙◌, add-one, arith, le-leb}
 use native.Mathlib.Nat.{pow-succ', pow-le-pow_right}
 use Rattle.std.proofs.lemmas.List.{get_or-take, get_or-drop}
 use borrow.Author.Tests.{lt-leb}
 use lib.Ieee.{Float, binary64, of_bits}
-use Rattle.lists.specs.Writing.{put}
+use Rattle.lists.specs.Writing.{put, Written}
 use Rattle.lists.proofs.Pieces.{length_singles}
 use Rattle.decode.specs.Stored.{big_endian, floats_at}
 use Rattle.decode.specs.Inner.Reading.{big_endian_or0, big_endian_at_or0, with_floats_at}
@@ -88,3 +88,13 @@ module _ (s : List ℕ) (at k : ℕ) where
       pub floats_put : k ≤ length entry → put entry 0 (floats_at s at k) ≡ with_floats_at entry s at k
       unfolding with_floats_at
       floats_put room = rw (le-leb _ _ there, le-leb _ _ room)
+
+      module _ (room : k ≤ length entry) where
+        pub floats_held : {exit : List Float} → Written entry exit 0 (floats_at s at k) k → exit ≡ with_floats_at entry s at k
+        floats_held w = w.held ∙ floats_put room
+
+        -- all bytes are there, and room
+        pub floats_there : {exit : List Float} → exit ≡ with_floats_at entry s at k → Written entry exit 0 (floats_at s at k) k
+        floats_there e =
+            let n = length_floats s at k in
+            record { held = e ∙ sym (floats_put room); room = omega arith; after = omega arith }
