@@ -71,10 +71,12 @@ pub fn flag_at(source: Source, flag: usize, place: Place) -> u32
 {
     let p = place.0;
     match source {
-        Source::Bits(bytes) => match bits::read(bytes, BitPos(p), flag) {
-            Some((flag, _)) => flag,
-            None => 0,
-        },
+        Source::Bits(bytes) => {
+            let Some((flag, _)) = bits::read(bytes, BitPos(p), flag) else {
+                return 0;
+            };
+            flag
+        }
         Source::List(values) => {
             if p < values.len() {
                 decode::flag_of(values[p])

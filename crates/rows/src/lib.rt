@@ -16,6 +16,7 @@ mod writing;
 
 pub use any::{Widths, fill_ranges, flag_at, place_colours, place_corner, place_points};
 pub use copying::copy_point;
+pub use writing::Vertex;
 
 // Which bits of a flag count. A reader of bytes chooses once, by a mask and no test: docs/DECISIONS.md. The flags of a list are whole numbers.
 pub const WHOLE_NUMBER: u32 = 0xffff_ffff;

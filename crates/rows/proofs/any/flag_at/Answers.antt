@@ -9,9 +9,9 @@ pub returns-in-Some : goal.returns-in-Some
 unfolding flag_at
 returns-in-Some c = rw (c.in-Bits.is, ← c.read.ensures, c.in-Some.is)
 
-pub returns-in-None : goal.returns-in-None
+pub returns-in_default : goal.returns-in_default
 unfolding flag_at
-returns-in-None c = rw (c.in-Bits.is, ← c.read.ensures, c.in-None.is)
+returns-in_default c = rw (c.in-Bits.is, ← c.read.ensures, c.in_default.is)
 
 pub returns-then-p-values : goal.returns-then-p-values
 unfolding flag_at
