@@ -1,13 +1,14 @@
 -- The record at a place, and where there is none. Assumes nothing.
 use Prim.Native.Nat.{ℕ, ◌+◌, ◌*◌, ◌≤◌, ◌<◌}
-use mathlib.Core.Path.{◌≡◌, sym, ◌∙◌}
-use mathlib.Core.Bool.{Bool}
+use mathlib.Core.Path.{◌≡◌, refl, sym, ◌∙◌}
+use mathlib.Core.Bool.{Bool, false}
 use mathlib.Core.List.{List}
 use mathlib.Core.Option.{some, none, some-injective, none-ne-some}
 use native.Mathlib.Omega.{arith}
 use lib.ListN.{length, take, drop, replicate, length-append, length-replicate}
 use Rattle.bits.specs.Bits.{number, stream, field_at}
 use Rattle.records.specs.declared.shape.Kind.{Kind}
+use Rattle.records.specs.declared.shape.Kind.TheVariants.{Six}
 use Rattle.records.specs.Following.{Following, follows, ends}
 use Rattle.records.specs.declared.mesh.Mesh.{Mesh}
 use Rattle.records.specs.Format.{sum, shape_of, widths_of, format, next}
@@ -44,6 +45,10 @@ module _ (kind : Kind) (first coord comp n : ℕ) (s : List ℕ) (started : Bool
   pub mesh_ends : ends ≡ shape_of kind started lead → next (format kind first coord comp n) started (drop p (stream s)) ≡ none
   mesh_ends e =
       next_none (format kind first coord comp n) started (drop p (stream s)) (λ ws q. absurd (none-ne-some ws (sym (more_is e) ∙ q)))
+
+-- so does one with a flag of 33 bits, numbers of no bits and 33 components, which no mesh has, where its first flag is 3
+pub ends_unreadable : (s : List ℕ) → 3 ≡ field_at s 0 33 → next (format Six 33 0 0 33) false (drop 0 (stream s)) ≡ none
+ends_unreadable s value = mesh_ends Six 33 0 0 33 s false 0 (omega arith) 3 value refl
 
 module _ (m : Mesh) (s : List ℕ) (started : Bool) (p : ℕ) (within : p ≤ 8 * length s) where
   -- not even its first number
