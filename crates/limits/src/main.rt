@@ -6,8 +6,10 @@
 ghost use Rattle.std.specs.Prelude.{◌<◌, length};
 
 use answers::{Answer, Told};
+use pieces::Pieces;
+use std::fmt::Write;
 
-// Makes a call with so many components and prints what it answers, by the two numbers that C gets. What can't be printed is let go.
+// Makes a call with so many components and prints what it answers, by the two numbers that C gets.
 fn print_call<T, F: Fn(usize, &mut [T]) -> Answer>(
     rt: &impl Print,
     name: &str,
@@ -18,12 +20,13 @@ fn print_call<T, F: Fn(usize, &mut [T]) -> Answer>(
     requires { F.IsAlwaysCallable call }
 {
     let room = out.len();
-    let _ = print!(rt; "{name}: {n} components, room for {room}: ");
     let Told { refused, count } = Told::from(call(n, out));
+    let mut line = Pieces(rt);
+    let _ = write!(line, "{name}: {n} components, room for {room}");
     let _ = if refused == 0 {
-        println!(rt; "wrote {count}")
+        write!(line, ": wrote {count}\n")
     } else {
-        println!(rt; "refused {refused}, count {count}")
+        write!(line, ": refused {refused}, count {count}\n")
     };
 }
 

@@ -24,6 +24,8 @@ ghost use Rattle.std.specs.Prelude.{◌≡◌, ◌≤◌, length};
 ghost use Rattle.replay.specs.Tallies.{tally};
 
 use crate::replaying::Replayed;
+use pieces::Pieces;
+use std::fmt::Write;
 use std::fs::File;
 use std::io::Read;
 use std::rt::Files;
@@ -40,7 +42,7 @@ struct Tally {
     disagree: u64,
 }
 
-// Replays the cases of a file one by one, and prints those that disagree. A line that can't be printed is let go: the tally holds all the same.
+// Replays the cases of a file one by one, and prints those that disagree. What can't be printed is let go: the tally holds all the same.
 fn replay_file(rt: &impl Print, name: &str, file: &[u8]) -> Tally
     ensures { result ≡ tally file.now }
 {
@@ -51,7 +53,7 @@ fn replay_file(rt: &impl Print, name: &str, file: &[u8]) -> Tally
         let case = agree + disagree + 1;
         let function = rest[0];
         let Some(Replayed { size, wrong }) = replaying::replay(rest) else {
-            let _ = println!(rt; "{name}: case {case} can't be read");
+            let _ = write!(Pieces(rt), "{name}: case {case} can't be read\n");
             return Tally {
                 agree,
                 disagree: disagree + 1,
@@ -61,7 +63,10 @@ fn replay_file(rt: &impl Print, name: &str, file: &[u8]) -> Tally
         match wrong {
             None => agree += 1,
             Some(seen) => {
-                let _ = println!(rt; "{name}: case {case}, function {function}, answers {seen}");
+                let _ = write!(
+                    Pieces(rt),
+                    "{name}: case {case}, function {function}{seen}\n"
+                );
                 disagree += 1;
             }
         }
@@ -84,21 +89,20 @@ fn read_full(reader: &mut impl Read, buffer: &mut [u8]) -> usize
     done
 }
 
-// Replays the file that an argument names, and prints its tally. A line that can't be printed is let go here too, so that the files after it are
-// replayed.
+// Replays the file that an argument names, and prints its tally. What can't be printed is let go here too, so that the files after it are replayed.
 fn replay_argument(rt: &(impl Files + Print), name: &str) {
     let Ok(mut reader) = File::open(rt, name) else {
-        let _ = println!(rt; "{name}: can't be opened");
+        let _ = write!(Pieces(rt), "{name}: can't be opened\n");
         return;
     };
     let mut file = [0u8; 65536];
     let n = read_full(&mut reader, &mut file);
     if n == file.len() {
-        let _ = println!(rt; "{name}: too long");
+        let _ = write!(Pieces(rt), "{name}: too long\n");
         return;
     }
     let Tally { agree, disagree } = replay_file(rt, name, &file[..n]);
-    let _ = println!(rt; "{name}: {agree} agree, {disagree} disagree");
+    let _ = write!(Pieces(rt), "{name}: {agree} agree, {disagree} disagree\n");
 }
 
 fn main(rt: HostRuntime) -> io::Result<()> {

@@ -10,6 +10,7 @@ use crate::{calls, digests};
 use answers::Told;
 use decode::stored::{big_endian, read_floats};
 use std::fmt;
+use std::fmt::InlineText;
 
 // How many bytes of a case stand before its Decode entries.
 const HEADER: usize = 31;
@@ -28,13 +29,18 @@ pub struct Seen {
     pub sums: Sums,
 }
 
+// What a case's line says after the function. A sum is one piece of it, with the zeros that lead it.
 impl fmt::Display for Seen {
     fn fmt<W: fmt::Write>(&self, f: &mut fmt::Formatter<W>) -> fmt::Result {
         let Told { refused, count } = self.told;
         let Sums { first, second } = self.sums;
+        let first = InlineText::<16>::of(format_args!("{first:016x}"));
+        let second = InlineText::<16>::of(format_args!("{second:016x}"));
         write!(
             f,
-            "refused {refused}, count {count}, sums {first:016x} {second:016x}"
+            ", answers refused {refused}, count {count}, sums {} {}",
+            first.as_str(),
+            second.as_str()
         )
     }
 }
