@@ -1,5 +1,5 @@
 -- The second pass over a raw list: what has been written, and where the patch before stands. Assumes nothing.
-use Prim.Native.Nat.{ℕ, ◌+◌, ◌*◌, ◌≤◌}
+use Prim.Native.Nat.{ℕ, ◌+◌, ◌-◌, ◌*◌, ◌≤◌, ◌<◌}
 use mathlib.Core.Path.{◌≡◌, refl, sym, ap, ◌∙◌, subst}
 use mathlib.Core.Bool.{true, false}
 use mathlib.Core.List.{List, [], ◌∷◌, ◌++◌, append_assoc}
@@ -7,7 +7,8 @@ use mathlib.Core.Option.{some}
 use Rattle.std.specs.Prelude.{Option, Some, None, IsSome, IfSome}
 use native.Mathlib.Omega.{arith}
 use lib.IntN.{ℤ}
-use lib.ListN.{length, drop, length-append}
+use lib.ListN.{length, get_or, take, drop, length-append}
+use Rattle.std.proofs.lemmas.List.{drop_more, take_rest}
 use Rattle.lists.specs.Lists.{flat, All}
 use Rattle.lists.specs.Writing.{Written}
 use Rattle.lists.proofs.Pieces.{flat_append, flat_more}
@@ -40,6 +41,10 @@ pub record Pass (n : ℕ) (xs : List ℕ) (l o : List ℤ) (before : Option Coon
 pub pass_start : (n : ℕ) (xs : List ℕ) (l : List ℤ) → Pass n xs l l None 0 xs
 unfolding flat
 pass_start n xs l = record { done = []; walk = walk_start n xs; sized = tt; written = written_none l 0 (omega arith) }
+
+-- what is left at index i: the flag there, then the numbers after it
+pub flag_first : (xs : List ℕ) (i : ℕ) → i < length xs → drop i xs ≡ get_or xs i 0 ∷ take (length xs - (i + 1)) (drop (i + 1) xs)
+flag_first xs i h = rw take_rest (drop_more xs i 0 h)
 
 all_middle : {A : Type 0} (P : A → Type 0) (xs : List A) (y : A) (ys : List A) → All P (xs ++ (y ∷ ys)) → P y
 all_middle P [] y ys h = h.0

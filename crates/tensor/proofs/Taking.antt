@@ -6,7 +6,7 @@ use mathlib.Core.Option.{some}
 use Rattle.std.specs.Prelude.{Option, Some, IfSome}
 use native.Mathlib.Nat.{zero-add, add-zero, add-suc, one-mul, zero-mul, suc-mul, mul-le-mul_right}
 use native.Mathlib.Omega.{arith}
-use lib.ListN.{length, get_elem?, take, drop, length-drop}
+use lib.ListN.{length, get_elem?, take, drop, length-append, length-drop}
 use lib.Seq.{drop-drop, take_at, drop_at, length-take-le}
 use Rattle.lists.specs.Lists.{joined, part, flat}
 use Rattle.lists.proofs.Pieces.{joined_same, length_part, part_take, part_then}
@@ -79,6 +79,10 @@ off n xs p h e f g =
     }
 
 -- ---- the patch
+
+two_parts : (a : List ℕ) (p j : ℕ) (b : List ℕ) (q k : ℕ) → length (part 0 a p j ++ part 0 b q k) ≡ j + k
+two_parts a p j b q k = rw (length-append, length_part 0 a p j, length_part 0 b q k) refl
+
 -- two colours side by side
 record Halves (n : ℕ) (xs : List ℕ) (p : ℕ) (a : List ℕ) : Type 0 where
   first : part 0 xs p n ≡ take n a
@@ -126,6 +130,7 @@ module _ (n : ℕ) (own : List ℕ) where
         taken = ap₂ (λ (ps cs : List (List ℕ)). some (patch ps cs)) points (four_colours n own 24 ∙ rw (a.part_is, d.part_is, f.first, f.second) refl);
         sized =
             record {
+              side = ap length (sym g.part_is) ∙ length_part 0 own 0 8;
               others = ap length (sym o.part_is) ∙ length_part 0 own 8 16;
               c00 = ap length (sym a.part_is) ∙ length_part 0 own 24 n;
               c03 = ap length (sym d.part_is) ∙ length_part 0 own (24 + n) n;
@@ -135,16 +140,16 @@ module _ (n : ℕ) (own : List ℕ) where
       })
 
   -- flags 1 to 3: side s of the patch before, then what the record brings
-  module _ {before : Option Coons} {flag : ℕ} {b : Coons} (came : before ≡ Some b) (eight : length b.side ≡ 8) (sized : IfSome before (Sized n))
+  module _ {before : Option Coons} {flag : ℕ} {b : Coons} (came : before ≡ Some b) (sized : IfSome before (Sized n))
       (c : Coons) {r0 rest : List ℕ} (there : size_after 8 n flag ≤ length own)
       (others : c.others.now ≡ take 16 own) (e0 : r0 ≡ drop 16 own) (last : c.c33_c30.now ≡ take (2 * n) r0) (e1 : rest ≡ drop (2 * n) r0) where
     pub takes_joined : (f : ℕ) (s : Places) → flag ≡ suc f → get_elem? sides f ≡ some s
         → at (groups 0 b.side 0 4 2 ++ groups 0 b.others.now 0 8 2) s.points ≡ groups 0 c.side 0 4 2
         → at (b.c00.now ∷ b.c03.now ∷ take n b.c33_c30.now ∷ drop n b.c33_c30.now ∷ []) s.colours ≡ c.c00.now ∷ c.c03.now ∷ []
-        → length c.c00.now ≡ n → length c.c03.now ≡ n
+        → length c.side ≡ 8 → length c.c00.now ≡ n → length c.c03.now ≡ n
         → Taken n before flag own c rest
     unfolding patch_in
-    takes_joined f s is-flag t ps cs u v =
+    takes_joined f s is-flag t ps cs eight u v =
         let h : size_after 8 n (suc f) ≤ length own = rw is-flag at there in
         let o = off 16 own 0 (omega arith) refl others e0 in
         let a = off (2 * n) own 16 (omega arith) o.rest_is last e1 in
@@ -156,6 +161,7 @@ module _ (n : ℕ) (own : List ℕ) where
           taken = rw (t, ps, cs, points, two_colours n own 16, d.first, d.second) refl;
           sized =
               record {
+                side = eight;
                 others = ap length (sym o.part_is) ∙ length_part 0 own 0 16;
                 c00 = u;
                 c03 = v;
@@ -170,11 +176,12 @@ module _ (n : ℕ) (own : List ℕ) where
     unfolding at flat groups joined
     takes_one is-flag side c00 c03 =
         let w : Sized n b = rw came at sized in
-        let one : part 0 b.side 6 2 ≡ take 2 (drop 6 b.side) = part_take 0 b.side 6 2 (omega arith) in
+        let one : part 0 b.side 6 2 ≡ take 2 (drop 6 b.side) = part_take 0 b.side 6 2 (omega (arith, w.side)) in
         let three : part 0 b.others.now 0 6 ≡ take 6 b.others.now = part_take 0 b.others.now 0 6 (omega (arith, w.others)) in
+        let copies : c.side ≡ part 0 b.side 6 2 ++ part 0 b.others.now 0 6 = side ∙ sym (ap₂ (λ (x y : List ℕ). x ++ y) one three) in
         takes_joined 0 (patch (3 ∷ 4 ∷ 5 ∷ 6 ∷ []) (1 ∷ 2 ∷ [])) is-flag refl
-        (sym (ap (λ (l : List ℕ). groups 0 l 0 4 2) (side ∙ sym (ap₂ (λ (x y : List ℕ). x ++ y) one three)) ∙ groups_of_copies b.side 6 1 b.others.now 0 3 2))
-        (rw (c00, c03) refl) (ap length c00 ∙ w.c03) (ap length c03 ∙ length-take-le n b.c33_c30.now (omega (arith, w.c33_c30)))
+        (sym (ap (λ (l : List ℕ). groups 0 l 0 4 2) copies ∙ groups_of_copies b.side 6 1 b.others.now 0 3 2))
+        (rw (c00, c03) refl) (ap length copies ∙ two_parts b.side 6 2 b.others.now 0 6) (ap length c00 ∙ w.c03) (ap length c03 ∙ length-take-le n b.c33_c30.now (omega (arith, w.c33_c30)))
 
     pub takes_two : flag ≡ 2 → c.side ≡ take 8 (drop 4 b.others.now) → c.c00.now ≡ take n b.c33_c30.now → c.c03.now ≡ drop n b.c33_c30.now → Taken n before flag own c rest
     unfolding at flat groups joined
@@ -183,7 +190,7 @@ module _ (n : ℕ) (own : List ℕ) where
         let is : part 0 b.others.now 4 8 ≡ take 8 (drop 4 b.others.now) = part_take 0 b.others.now 4 8 (omega (arith, w.others)) in
         takes_joined 1 (patch (6 ∷ 7 ∷ 8 ∷ 9 ∷ []) (2 ∷ 3 ∷ [])) is-flag refl
         (sym (ap (λ (l : List ℕ). groups 0 l 0 4 2) (side ∙ sym is) ∙ groups_of_part 0 b.others.now 4 4 2))
-        (rw (c00, c03) refl) (ap length c00 ∙ length-take-le n b.c33_c30.now (omega (arith, w.c33_c30))) (ap length c03 ∙ rw length-drop (omega (arith, w.c33_c30)))
+        (rw (c00, c03) refl) (ap length (side ∙ sym is) ∙ length_part 0 b.others.now 4 8) (ap length c00 ∙ length-take-le n b.c33_c30.now (omega (arith, w.c33_c30))) (ap length c03 ∙ rw length-drop (omega (arith, w.c33_c30)))
 
     pub takes_three : flag ≡ 3 → c.side ≡ take 6 (drop 10 b.others.now) ++ take 2 b.side → c.c00.now ≡ drop n b.c33_c30.now → c.c03.now ≡ b.c00.now
         → Taken n before flag own c rest
@@ -191,7 +198,8 @@ module _ (n : ℕ) (own : List ℕ) where
     takes_three is-flag side c00 c03 =
         let w : Sized n b = rw came at sized in
         let three : part 0 b.others.now 10 6 ≡ take 6 (drop 10 b.others.now) = part_take 0 b.others.now 10 6 (omega (arith, w.others)) in
-        let one : part 0 b.side 0 2 ≡ take 2 b.side = part_take 0 b.side 0 2 (omega arith) in
+        let one : part 0 b.side 0 2 ≡ take 2 b.side = part_take 0 b.side 0 2 (omega (arith, w.side)) in
+        let copies : c.side ≡ part 0 b.others.now 10 6 ++ part 0 b.side 0 2 = side ∙ sym (ap₂ (λ (x y : List ℕ). x ++ y) three one) in
         takes_joined 2 (patch (9 ∷ 10 ∷ 11 ∷ 0 ∷ []) (3 ∷ 0 ∷ [])) is-flag refl
-        (sym (ap (λ (l : List ℕ). groups 0 l 0 4 2) (side ∙ sym (ap₂ (λ (x y : List ℕ). x ++ y) three one)) ∙ groups_of_copies b.others.now 10 3 b.side 0 1 2))
-        (rw (c00, c03) refl) (ap length c00 ∙ rw length-drop (omega (arith, w.c33_c30))) (ap length c03 ∙ w.c00)
+        (sym (ap (λ (l : List ℕ). groups 0 l 0 4 2) copies ∙ groups_of_copies b.others.now 10 3 b.side 0 1 2))
+        (rw (c00, c03) refl) (ap length copies ∙ two_parts b.others.now 10 6 b.side 0 2) (ap length c00 ∙ rw length-drop (omega (arith, w.c33_c30))) (ap length c03 ∙ w.c00)

@@ -1,5 +1,5 @@
 // Coons patches of raw numbers.
-ghost use Rattle.std.specs.Prelude.{◌≡◌, true, false, map, ◌++◌, ◌+◌, ◌*◌, ◌≤◌, pos, length, drop, IsSome, IfSome};
+ghost use Rattle.std.specs.Prelude.{◌≡◌, true, false, map, ◌++◌, ◌+◌, ◌*◌, ◌≤◌, pos, length, IsSome, IfSome};
 ghost use Rattle.lists.specs.Lists.{flat};
 ghost use Rattle.lists.specs.Writing.{put};
 ghost use Rattle.answers.specs.Limits.{most_components, most_numbers};
@@ -55,21 +55,21 @@ pub fn count_patches(numbers: &[u32], n: usize) -> Option<usize>
     Some(count)
 }
 
-// The patch of a record, by the numbers after its flag, and those after the record. The first side is the record's own for flag 0. Flag 1 takes over the
-// points 3 to 6 of the patch before, flag 2 its points 6 to 9, flag 3 its points 9, 10, 11 and 0.
+// The patch of a record, by the numbers after its flag, and how many of these it takes. The first side is the record's own for flag 0. Flag 1 takes over
+// the points 3 to 6 of the patch before, flag 2 its points 6 to 9, flag 3 its points 9, 10, 11 and 0.
 fn take_patch<'a>(
     before: Option<Coons<'a>>,
     flag: u32,
     own: &'a [u32],
     n: usize,
-) -> (Coons<'a>, &'a [u32])
+) -> (Coons<'a>, usize)
     requires few_flags { flag ≤ 3 }
     requires all_there { size_after 8 n flag ≤ length own.now }
     requires before_sized { IfSome before (Sized n) }
     requires joined_to { 1 ≤ flag → IsSome before }
     ensures taken { Takes n before.entry flag own.now result.0 }
     ensures sized { Sized n result.0 }
-    ensures rest { result.1.now ≡ drop (size_after 8 n flag) own.now }
+    ensures size { result.1 ≡ size_after 8 n flag }
 {
     let mut side = [0u32; 8];
     if flag == 0 {
@@ -77,7 +77,7 @@ fn take_patch<'a>(
         let (others, own) = own.split_at(16);
         let (c00, own) = own.split_at(n);
         let (c03, own) = own.split_at(n);
-        let (c33_c30, rest) = own.split_at(2 * n);
+        let (c33_c30, _) = own.split_at(2 * n);
         side.copy_from_slice(first);
         return (
             Coons {
@@ -87,12 +87,13 @@ fn take_patch<'a>(
                 c03,
                 c33_c30,
             },
-            rest,
+            24 + 4 * n,
         );
     }
     let before = before.unwrap();
     let (others, own) = own.split_at(16);
-    let (c33_c30, rest) = own.split_at(2 * n);
+    let (c33_c30, _) = own.split_at(2 * n);
+    let size = 16 + 2 * n;
     let (c33, c30) = before.c33_c30.split_at(n);
     if flag == 1 {
         let (one, three) = side.split_at_mut(2);
@@ -106,7 +107,7 @@ fn take_patch<'a>(
                 c03: c33,
                 c33_c30,
             },
-            rest,
+            size,
         );
     }
     if flag == 2 {
@@ -119,7 +120,7 @@ fn take_patch<'a>(
                 c03: c30,
                 c33_c30,
             },
-            rest,
+            size,
         );
     }
     let (three, one) = side.split_at_mut(6);
@@ -133,7 +134,7 @@ fn take_patch<'a>(
             c03: before.c00,
             c33_c30,
         },
-        rest,
+        size,
     )
 }
 
@@ -189,13 +190,13 @@ pub fn write_patches(numbers: &[u32], n: usize, out: &mut [i64])
 {
     let size = 32 + 4 * n;
     let mut before = None;
-    let mut rest = numbers;
+    let mut i: usize = 0;
     let mut at: usize = 0;
-    while let Some((flag, own)) = rest.split_first() { // each record tells how many numbers it takes
-        let (patch, after) = take_patch(before, *flag, own, n);
+    while i < numbers.len() { // each record tells how many numbers it takes
+        let (patch, taken) = take_patch(before, numbers[i], &numbers[i + 1..], n);
         write_patch(&patch, n, &mut out[at..at + size]);
         before = Some(patch);
-        rest = after;
+        i += 1 + taken;
         at += size;
     }
 }

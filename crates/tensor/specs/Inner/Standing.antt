@@ -13,8 +13,9 @@ Raw = Patch (List ℕ) (List ℕ)
 unfoldable pub patch_in : ℕ → Coons → Raw
 patch_in n c = patch (groups 0 c.side 0 4 2 ++ groups 0 c.others.now 0 8 2) (c.c00.now ∷ c.c03.now ∷ take n c.c33_c30.now ∷ drop n c.c33_c30.now ∷ [])
 
--- its other points have 16 numbers, and each colour n
+-- its first side has eight numbers, its other points have 16, and each colour n
 pub record Sized (n : ℕ) (c : Coons) : Type 0 where
+  pub side : length c.side ≡ 8
   pub others : length c.others.now ≡ 16
   pub c00 : length c.c00.now ≡ n
   pub c03 : length c.c03.now ≡ n
